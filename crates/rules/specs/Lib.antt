@@ -6,5 +6,7 @@ pub mod Edges
 pub mod Replies
 pub mod Machine
 pub mod Records
+pub mod Ranges
 pub mod Calls
+pub mod Sentences
 pub mod Examples
