@@ -130,7 +130,7 @@ standing F t = go (leadAt F t) (highAfter F t) refl refl
 -- ---- actual edges
 
 -- high video with no trail stays high
-high-on : (F : List ℕ) (t : ℕ) → highAfter F t ≡ true → trailAt F (suc t) ≡ false → highAfter F (suc t) ≡ true
+pub high-on : (F : List ℕ) (t : ℕ) → highAfter F t ≡ true → trailAt F (suc t) ≡ false → highAfter F (suc t) ≡ true
 unfolding highAfter
 high-on F t h n = rw (h, sym (trail-falls F t h) ∙ n, or-true (leadAt F (suc t)))
 
@@ -373,3 +373,13 @@ module _ (set : Settings) (ok : Allowed set) (F : List ℕ) (sloped : Sloped F) 
       let m : suc (t - x .s) % 4 ≡ 1 = omega (arith, x .tick) in
       kind-inside set F t (x .e) (i .lead) (i .going)
       ∙ rw (not-pseudo (ageAt F t) (x .e) (x .upTo), i .aged, lt-ltb 1 (suc (t - x .s)) (omega (arith, x .first, x .tick)), eq-eqb (suc (t - x .s) % 4) 1 m, lt-ltb (t + 3) (x .e) (u .0), u .1)
+
+  -- no tick has two kinds of edge
+  kinds-differ : (k : Kind) → (k ≡ actual → k ≡ pseudo → ⊥) × (k ≡ actual → k ≡ extra → ⊥) × (k ≡ pseudo → k ≡ extra → ⊥)
+  kinds-differ k =
+      (λ p q. let z : _≡_ {A = ℕ} 0 1 = cc in omega arith, λ p q. let z : _≡_ {A = ℕ} 0 1 = cc in omega arith, λ p q. let z : _≡_ {A = ℕ} 0 1 = cc in omega arith)
+
+  pub one-kind : (Actual set F t → Pseudo set F t → ⊥) × (Actual set F t → Extra set F t → ⊥) × (Pseudo set F t → Extra set F t → ⊥)
+  one-kind =
+      let d = kinds-differ (kindAt set F t) in
+      (λ a p. d .0 (is-actual set ok F t a) (is-pseudo p), λ a x. d .1 (is-actual set ok F t a) (is-extra x), λ p x. d .2 (is-pseudo p) (is-extra x))

@@ -5,4 +5,16 @@ pub mod EdgeSentences
 pub mod References
 pub mod Ones
 pub mod Ranges
+pub mod ListLaws
+pub mod Positions
+pub mod Outcomes
+pub mod Each
+pub mod Order
+pub mod Settled
+pub mod Spacing
+pub mod Apart
+pub mod Bare
+pub mod EachReply
+pub mod HandingOut
+pub mod Totals
 pub mod Examples

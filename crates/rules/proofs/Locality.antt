@@ -141,7 +141,7 @@ unfolding kindAt ageAt
 kindAt-past set F zero h = absurd (omega arith)
 kindAt-past set F (suc t) h = rw (past-nil F (suc t) h, age-nil (ageAt F t)) (kind-nil set)
 
-from-length : (set : Settings) (a : ℕ) (v : List ℕ) → length (kindsFrom set a v) ≡ length v
+pub from-length : (set : Settings) (a : ℕ) (v : List ℕ) → length (kindsFrom set a v) ≡ length v
 unfolding kindsFrom
 from-length set a [] = refl
 from-length set a (x ∷ v) = ap suc (from-length set (age a (x ∷ v)) v)

@@ -193,7 +193,7 @@ unfolding ageAt
 low-without-A F zero h = age-low 0 (since F zero) h
 low-without-A F (suc t) h = age-low (ageAt F t) (since F (suc t)) h
 
-low-past : (F : List ℕ) (t : ℕ) → length F ≤ t → highAfter F t ≡ true → ⊥
+pub low-past : (F : List ℕ) (t : ℕ) → length F ≤ t → highAfter F t ≡ true → ⊥
 low-past F t h g = impossible (sym g ∙ high-age F t ∙ ap (λ (n : ℕ). not (eqb n 0)) (low-without-A F t (past-A F t h)))
 
 pub record Ended (F : List ℕ) (t : ℕ) : Type 0 where
@@ -247,12 +247,12 @@ reach-plain F t a p r =
     go i l m false q = let z = eqb-false i (suc t) q in r .plain i (omega arith) (omega arith)
 
 -- the age at a tick: 1 at a lead, 0 where video is low, else one more than before, at a plain tick
-data Aged (F : List ℕ) (t b : ℕ) : Type 0 where
+pub data Aged (F : List ℕ) (t b : ℕ) : Type 0 where
   atLead : leadAt F (suc t) ≡ true → b ≡ 1 → Aged F t b
   low : b ≡ 0 → Aged F t b
   atPlain : Plain F (suc t) → highAfter F t ≡ true → b ≡ suc (ageAt F t) → Aged F t b
 
-aged : (F : List ℕ) (t : ℕ) → Aged F t (ageAt F (suc t))
+pub aged : (F : List ℕ) (t : ℕ) → Aged F t (ageAt F (suc t))
 unfolding ageAt age leadAt
 aged F t = go (leadAt F (suc t)) (eqb (ageAt F t) 0) (falls (since F (suc t))) refl refl refl
   where
@@ -310,7 +310,7 @@ unfolding A
 A-suc F t = ap (λ (b : ℕ). eqb (b % 2) 1) (sym (place-suc F t 1))
 
 -- place 2 of a tick's window is the tick
-place-two : (F : List ℕ) (t : ℕ) → getD (since F t) 2 0 ≡ getD F t 0
+pub place-two : (F : List ℕ) (t : ℕ) → getD (since F t) 2 0 ≡ getD F t 0
 place-two F t = getD-drop t (0 ∷ 0 ∷ F) 2 0 ∙ ap (λ (n : ℕ). getD (0 ∷ 0 ∷ F) n 0) (two t)
   where
     two : (t : ℕ) → t + 2 ≡ suc (suc t)

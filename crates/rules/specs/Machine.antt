@@ -47,6 +47,18 @@ abbrev pub isBracket : Bracket → Bool
 isBracket Without = false
 isBracket (With f) = true
 
+module _ (set : Settings) (E : ℕ → Edge) where
+  -- the bracket at an edge at u, if one stands there
+  unfoldable pub bracketAt : ℕ → Bracket
+  unfolding bracketOf
+  bracketAt u = bracketOf set (E (u + 168)) (E (u + 167)) (E (u + 169))
+
+  -- the number of edges below tick n at which a bracket stands
+  unfoldable pub bracketsBelow : ℕ → ℕ
+  unfolding bracketAt
+  bracketsBelow zero = 0
+  bracketsBelow (suc n) = bracketsBelow n + cond (stands (E n) && isBracket (bracketAt n)) 1 0
+
 -- ---- what becomes of a bracket
 
 -- "1. Neither F1 nor F2 has M: sidelobe, done." "3. No framing pulse both has M and is uncovered by every open reply: garbled, done."
@@ -128,7 +140,7 @@ module _ (plus : ℕ → ℕ → ℕ) where
     -- The edge goes to each open reply of the list; `before` are the open replies that stand before those.
     abbrev pub dealFrom : Pulse → List Reply → List Reply → List Reply
     dealFrom e before [] = []
-    dealFrom e before (r ∷ behind) = hear plus set e (any (speaks plus set e) (before ++ behind)) r ∷ dealFrom e (before ++ (r ∷ [])) behind
+    dealFrom e before (r ∷ behind) = hear plus set e (any (speaks set e) (before ++ behind)) r ∷ dealFrom e (before ++ (r ∷ [])) behind
 
     unfoldable pub deal : Pulse → State → State
     unfolding hear speaks
@@ -140,26 +152,16 @@ module _ (plus : ℕ → ℕ → ℕ) where
     edgeStep e b s = deal e (bracket e b s)
 
     module _ (E : ℕ → Edge) where
-      unfoldable pub bracketAt : ℕ → Bracket
-      unfolding bracketOf
-      bracketAt u = bracketOf set (E (u + 168)) (E (u + 167)) (E (u + 169))
-
       -- "The machine takes the edges by rising tick u."
       unfoldable pub step : ℕ → State → State
       unfolding retired edgeStep bracketAt
-      step u s = let t = retired u s in cond (stands (E u)) (edgeStep (E u .pulse) (bracketAt u) t) t
+      step u s = let t = retired u s in cond (stands (E u)) (edgeStep (E u .pulse) (bracketAt set E u) t) t
 
       -- the state after the ticks below n
       unfoldable pub after : ℕ → State
       unfolding step
       after zero = start
       after (suc n) = step n (after n)
-
-      -- the number of edges below tick n at which a bracket stands
-      unfoldable pub bracketsBelow : ℕ → ℕ
-      unfolding bracketAt
-      bracketsBelow zero = 0
-      bracketsBelow (suc n) = cond (stands (E n) && isBracket (bracketAt n)) 1 0 + bracketsBelow n
 
 -- the state after a whole trace
 unfoldable pub final : Settings → Trace → State

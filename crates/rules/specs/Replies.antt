@@ -133,16 +133,15 @@ heardAt plus k e x r =
       reference = cond (x .confidence) (average plus (r .reference) (e .value)) (r .reference);
     }
 
-module _ (plus : ℕ → ℕ → ℕ) (set : Settings) (e : Pulse) where
-  -- an open reply covers the edge's tick, and its reference agrees with the edge's value
-  unfoldable pub speaks : Reply → Bool
-  unfolding covers agrees
-  speaks r = covers (e .tick .0) r && agrees set (e .value) r
+-- an open reply covers the edge's tick, and its reference agrees with the edge's value
+unfoldable pub speaks : Settings → Pulse → Reply → Bool
+unfolding covers agrees
+speaks set e r = covers (e .tick .0) r && agrees set (e .value) r
 
-  -- "Then the edge goes to each open reply that covers u at a position 1 to 14 or 17 not yet settled, and settles it."
-  -- `other` says whether another open reply speaks.
-  unfoldable pub hear : Bool → Reply → Reply
-  unfolding position agrees heardAt
-  hear other r =
-      let k = position (f1 r) (e .tick .0) in
-      cond (takes k (r .word .settled)) (heardAt plus k e (verdict (e .main) (agrees set (e .value) r) other) r) r
+-- "Then the edge goes to each open reply that covers u at a position 1 to 14 or 17 not yet settled, and settles it."
+-- `other` says whether another open reply speaks.
+unfoldable pub hear : (ℕ → ℕ → ℕ) → Settings → Pulse → Bool → Reply → Reply
+unfolding position agrees heardAt
+hear plus set e other r =
+    let k = position (f1 r) (e .tick .0) in
+    cond (takes k (r .word .settled)) (heardAt plus k e (verdict (e .main) (agrees set (e .value) r) other) r) r

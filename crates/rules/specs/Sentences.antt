@@ -4,9 +4,12 @@ use mathlib.Core.Bool.{Bool, true, false, not, _&&_, _||_, cond}
 use mathlib.Core.List.{List}
 use mathlib.Core.Logic.{_⊎_}
 use mathlib.Core.Path.{_≡_}
+use lib.Dec.{leb, ltb}
+use Rattle.rules.specs.declared.Reply.{Reply}
 use Rattle.rules.specs.Settings.{Settings}
 use Rattle.rules.specs.Samples.{odd}
 use Rattle.rules.specs.Edges.{lead, falls, since}
+use Rattle.rules.specs.Replies.{f1}
 
 -- ---- edges, in the flags F of a trace
 
@@ -86,3 +89,7 @@ pub record Within (q k u : ℕ) : Type 0 where
   pub most : k ≤ 14
   pub from : q + 12 * k ≤ u + 2
   pub to : u ≤ q + 12 * k + 2
+
+-- F1 is one of the n ticks from tick a on
+abbrev pub inSpan : ℕ → ℕ → Reply → Bool
+inSpan a n r = leb a (f1 r) && ltb (f1 r) (a + n)
