@@ -17,4 +17,7 @@ pub mod Bare
 pub mod EachReply
 pub mod HandingOut
 pub mod Totals
+pub mod Joining
+pub mod Skipping
+pub mod PastEnd
 pub mod Examples

@@ -64,7 +64,7 @@ rising-snoc t u r e [] s = (omega arith, omega arith)
 rising-snoc t u r e (x ∷ l) s = (s .0, rising-snoc (f1 x + 1) u r e l (s .1))
 
 -- the later part of a rising list
-rising-behind : (t u : ℕ) (d l : List Reply) → Rising t u (d ++ l) → Rising t u l
+pub rising-behind : (t u : ℕ) (d l : List Reply) → Rising t u (d ++ l) → Rising t u l
 rising-behind t u [] l s = s
 rising-behind t u (x ∷ d) l s = rising-from (f1 x + 1) t u (omega (arith, s .0)) l (rising-behind (f1 x + 1) u d l (s .1))
 
@@ -78,7 +78,7 @@ rising-swap u u′ (x ∷ d) l l′ f t s = (s .0, rising-swap u u′ d l l′ f
 pub record Earlier (p : Reply → Bool) : Type 0 where
   pub earlier : (r x : Reply) → f1 r ≤ f1 x → p r ≡ false → p x ≡ false
 
-none-later : (p : Reply → Bool) → Earlier p → (r : Reply) → p r ≡ false → (u : ℕ) (l : List Reply) → Rising (f1 r + 1) u l → All (λ x. p x ≡ false) l
+pub none-later : (p : Reply → Bool) → Earlier p → (r : Reply) → p r ≡ false → (u : ℕ) (l : List Reply) → Rising (f1 r + 1) u l → All (λ x. p x ≡ false) l
 none-later p e r q u [] s = tt
 none-later p e r q u (x ∷ l) s =
     let q′ = e .earlier r x (omega (arith, s .0)) q in
@@ -94,7 +94,7 @@ split-rising p e t u (r ∷ l) s = go (p r) refl (split-rising p e (f1 r + 1) u 
         let n = none-later p e r q u l (s .1) in
         rw (filter-none p l n, reject-none p l n)
 
-ended-earlier : (u : ℕ) → Earlier (ended u)
+pub ended-earlier : (u : ℕ) → Earlier (ended u)
 unfolding ended
 ended-earlier u = record { earlier = λ r x l q. le-ltb (f1 x + 205) u (omega (arith, ltb-false (f1 r + 205) u q)) }
 

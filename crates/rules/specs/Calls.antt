@@ -1,9 +1,9 @@
 -- Opening, taking, closing: the refusal numbers in their order, the sizes of buffers, and what is handed out when.
-use Prim.Native.Nat.{ℕ, _+_, _*_, _/_, _≤_}
-use mathlib.Core.Bool.{Bool, true, false, not, _&&_, cond}
+use Prim.Native.Nat.{ℕ, _+_, _*_, _/_}
+use mathlib.Core.Bool.{Bool, not, _&&_, cond}
 use mathlib.Core.List.{List, [], _∷_}
 use lib.Dec.{leb, ltb, eqb}
-use lib.ListN.{length}
+use lib.ListN.{length, replicate}
 use Rattle.rules.specs.declared.Reply.{Reply}
 use Rattle.rules.specs.Settings.{Settings}
 use Rattle.rules.specs.Lists.{any, filter, reject}
@@ -58,16 +58,15 @@ takeAnswer running taken flags values room =
 unfoldable pub closeAnswer : Bool → ℕ → Answer
 closeAnswer running room = firstOf (record { number = 3; holds = not running } ∷ record { number = 7; holds = ltb room closeRoom } ∷ [])
 
--- a trace within the limits, of valid samples: what accepted pieces make
-pub record Valid (T : Trace) : Type 0 where
-  pub alike : length (T .values) ≤ length (T .flags)
-  pub alike′ : length (T .flags) ≤ length (T .values)
-  pub short : length (T .flags) ≤ sweepLimit
-
 -- "A reply with F1 at q, unless removed, is written by the first call after which at least q+385 ticks have been taken, in order of q"
 -- n is how many ticks have been taken.
 abbrev pub due : ℕ → Reply → Bool
 due n r = leb (f1 r + 385) n
+
+-- what has been handed out once the trace T is taken
+unfoldable pub handed : Settings → Trace → List Reply
+unfolding final
+handed set T = filter (due (length (T .flags))) (replies (final set T))
 
 -- what a take of P hands out after T
 unfoldable pub fresh : Settings → Trace → Trace → List Reply
@@ -78,3 +77,7 @@ fresh set T P = reject (due (length (T .flags))) (filter (due (length (T .flags)
 unfoldable pub rest : Settings → Trace → List Reply
 unfolding final
 rest set T = reject (due (length (T .flags))) (replies (final set T))
+
+-- "Samples outside the trace count as all zero.": n such ticks
+abbrev pub silence : ℕ → Trace
+silence n = record { flags = replicate n 0; values = replicate n 0 }

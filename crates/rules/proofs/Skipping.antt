@@ -1,0 +1,117 @@
+-- Ticks without an edge only retire: a run of them is one retiring at the last. So the machine need be visited only where an edge stands.
+use Prim.Native.Nat.{ℕ, zero, suc, _+_, _-_, _≤_, _<_}
+use native.Mathlib.Omega.{arith}
+use mathlib.Core.Path.{_≡_, refl, sym, ap, _∙_, subst}
+use mathlib.Core.Bool.{Bool, true, false, cond}
+use mathlib.Core.List.{List, [], _∷_, _++_, append-nil, append-assoc}
+use lib.Dec.{leb, ltb}
+use borrow.Author.Tests.{leb-true, leb-false, ltb-true, ltb-false, lt-ltb, le-ltb}
+use Rattle.rules.specs.declared.Reply.{Reply}
+use Rattle.rules.specs.Settings.{Settings}
+use Rattle.rules.specs.Lists.{filter, reject, All}
+use Rattle.rules.specs.Edges.{Edge, stands}
+use Rattle.rules.specs.Replies.{f1, ended}
+use Rattle.rules.specs.Machine.{State, retired, bracketAt, edgeStep, step, after}
+use Rattle.rules.specs.Records.{replies}
+use Rattle.rules.proofs.ListLaws.{filter-none, reject-none, all-map}
+use Rattle.rules.proofs.Order.{Rising, rising-behind, none-later, ended-earlier, Timed, Ordered, ordered}
+use Rattle.rules.proofs.Settled.{Young, aged}
+
+-- ---- retiring twice
+
+ended-later : (u v : ℕ) → u ≤ v → (r : Reply) → ended u r ≡ true → ended v r ≡ true
+unfolding ended
+ended-later u v h r e = lt-ltb (f1 r + 205) v (omega (arith, ltb-true (f1 r + 205) u e))
+
+module _ (u v : ℕ) (h : u ≤ v) where
+  filter-after : (t n : ℕ) (l : List Reply) → Rising t n l → filter (ended u) l ++ filter (ended v) (reject (ended u) l) ≡ filter (ended v) l
+  filter-after t n [] s = refl
+  filter-after t n (r ∷ l) s = go (ended u r) refl (filter-after (f1 r + 1) n l (s .1))
+    where
+      go : (b : Bool) → ended u r ≡ b → filter (ended u) l ++ filter (ended v) (reject (ended u) l) ≡ filter (ended v) l
+          → cond b (r ∷ filter (ended u) l) (filter (ended u) l) ++ filter (ended v) (cond b (reject (ended u) l) (r ∷ reject (ended u) l)) ≡ filter (ended v) (r ∷ l)
+      go true e k = rw (ended-later u v h r e) (ap {B = List Reply} (λ z. r ∷ z) k)
+      go false e k =
+          let n′ = none-later (ended u) (ended-earlier u) r e n l (s .1) in
+          rw (filter-none (ended u) l n′, reject-none (ended u) l n′)
+
+  reject-after : (l : List Reply) → reject (ended v) (reject (ended u) l) ≡ reject (ended v) l
+  reject-after [] = refl
+  reject-after (r ∷ l) = go (ended u r) refl (reject-after l)
+    where
+      go : (b : Bool) → ended u r ≡ b → reject (ended v) (reject (ended u) l) ≡ reject (ended v) l → reject (ended v) (cond b (reject (ended u) l) (r ∷ reject (ended u) l)) ≡ reject (ended v) (r ∷ l)
+      go true e k = rw (ended-later u v h r e) k
+      go false e k = ap {B = List Reply} (λ z. cond (ended v r) z (r ∷ z)) k
+
+  -- the later of two retirings is enough
+  pub retired-twice : (n : ℕ) (s : State) → Rising 0 n (replies s) → retired v (retired u s) ≡ retired v s
+  unfolding retired
+  retired-twice n s k =
+      let d =
+      append-assoc (s .done) (filter (ended u) (s .live)) (filter (ended v) (reject (ended u) (s .live)))
+      ∙ ap {B = List Reply} (λ z. s .done ++ z) (filter-after 0 n (s .live) (rising-behind 0 n (s .done) (s .live) k)) in
+      let l = reject-after (s .live) in
+      λ i. record { done = d i; live = l i; counts = s .counts }
+
+-- ---- ticks without an edge
+
+module _ (set : Settings) (E : ℕ → Edge) (timed : Timed E) where
+  plain-step : (u : ℕ) (s : State) → stands (E u) ≡ false → step _+_ set E u s ≡ retired u s
+  unfolding step
+  plain-step u s h = rw h
+
+  -- from c on, suc k ticks without an edge
+  pub skip : (k c : ℕ) → ((t : ℕ) → c ≤ t → t ≤ c + k → stands (E t) ≡ false) → after _+_ set E (suc (c + k)) ≡ retired (c + k) (after _+_ set E c)
+  unfolding after
+  skip zero c h =
+      let z : c + 0 ≡ c = omega arith in
+      rw z (plain-step c (after _+_ set E c) (h c (omega arith) (omega arith)))
+  skip (suc k) c h =
+      let z : c + suc k ≡ suc (c + k) = omega arith in
+      rw z
+      (plain-step (suc (c + k)) (after _+_ set E (suc (c + k))) (h (suc (c + k)) (omega arith) (omega arith))
+      ∙ ap (retired (suc (c + k))) (skip k c (λ t l m. h t l (omega arith)))
+      ∙ retired-twice (c + k) (suc (c + k)) (omega arith) c (after _+_ set E c) (ordered set E timed c .rising))
+
+  -- after tick u nothing is left for u to retire
+  young-none : (u : ℕ) (l : List Reply) → All (Young u) l → All (λ r. ended u r ≡ false) l
+  unfolding ended
+  young-none u l y = all-map (Young u) (λ r. ended u r ≡ false) (λ r k. le-ltb (f1 r + 205) u (k .young)) l y
+
+  retired-again : (u : ℕ) → retired u (after _+_ set E (suc u)) ≡ after _+_ set E (suc u)
+  unfolding retired
+  retired-again u =
+      let s = after _+_ set E (suc u) in
+      let n = young-none u (s .live) (aged set E timed u .live) in
+      let d = ap {B = List Reply} (λ z. s .done ++ z) (filter-none (ended u) (s .live) n) ∙ append-nil (s .done) in
+      let l = reject-none (ended u) (s .live) n in
+      λ i. record { done = d i; live = l i; counts = s .counts }
+
+  -- with no edge from c to u, the state after u is that after c, retired at u
+  pub skip-to : (c u : ℕ) → c ≤ suc u → ((t : ℕ) → c ≤ t → t ≤ u → stands (E t) ≡ false) → retired u (after _+_ set E c) ≡ after _+_ set E (suc u)
+  skip-to c u h p = go (leb c u) refl
+    where
+      go : (b : Bool) → leb c u ≡ b → retired u (after _+_ set E c) ≡ after _+_ set E (suc u)
+      go true e =
+          let l = leb-true c u e in
+          let k = u - c in
+          let z : c + k ≡ u = omega arith in
+          sym (subst (λ (n : ℕ). after _+_ set E (suc n) ≡ retired n (after _+_ set E c)) z (skip k c (λ t a b. p t a (omega arith))))
+      go false e =
+          let z : c ≡ suc u = omega (arith, leb-false c u e) in
+          ap (λ (n : ℕ). retired u (after _+_ set E n)) z ∙ retired-again u
+
+  -- with no edge from c up to u, the step at u starts from the state after c, retired at u
+  pub visit : (c u : ℕ) → c ≤ u → ((t : ℕ) → c ≤ t → t < u → stands (E t) ≡ false) → stands (E u) ≡ true
+      → edgeStep _+_ set (E u .pulse) (bracketAt set E u) (retired u (after _+_ set E c)) ≡ after _+_ set E (suc u)
+  unfolding after step
+  visit c zero h p q =
+      let z : c ≡ 0 = omega arith in
+      rw (z, q)
+  visit c (suc u) h p q =
+      let e = E (suc u) .pulse in
+      let b = bracketAt set E (suc u) in
+      rw q
+      (ap (λ (s : State). edgeStep _+_ set e b s)
+      (sym (retired-twice u (suc u) (omega arith) c (after _+_ set E c) (ordered set E timed c .rising))
+      ∙ ap (retired (suc u)) (skip-to c u h (λ t a m. p t a (omega arith)))))
