@@ -19,7 +19,7 @@ use Rattle.rules.specs.Calls.{due, handed, fresh, rest}
 use Rattle.rules.proofs.Truth.{impossible}
 use Rattle.rules.proofs.Order.{Rising, Earlier, split-rising, Ordered}
 use Rattle.rules.proofs.Settled.{settled}
-use Rattle.rules.proofs.Totals.{final-ordered}
+use Rattle.rules.proofs.Printed.{final-ordered}
 
 due-earlier : (n : ℕ) → Earlier (due n)
 due-earlier n = record { earlier = λ r x l q. lt-leb (f1 x + 385) n (omega (arith, leb-false (f1 r + 385) n q)) }

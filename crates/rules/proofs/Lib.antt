@@ -16,7 +16,7 @@ pub mod Apart
 pub mod Bare
 pub mod EachReply
 pub mod HandingOut
-pub mod Totals
+pub mod Printed
 pub mod Joining
 pub mod Skipping
 pub mod PastEnd

@@ -18,7 +18,8 @@ use Rattle.rules.specs.Samples.{Trace}
 use Rattle.rules.specs.Edges.{Edge, stands, edgeAt}
 use Rattle.rules.specs.Replies.{ended, isPhantom}
 use Rattle.rules.specs.Machine.{State, start, retired, isBracket, bracketAt, bracketsBelow, fate, opened, liveAfter, tally, bracket, dealFrom, deal, edgeStep, step, after, final}
-use Rattle.rules.specs.Records.{replies, Totals, totals}
+use Rattle.rules.specs.declared.Totals.{Totals}
+use Rattle.rules.specs.Records.{replies, totals}
 use Rattle.rules.proofs.ListLaws.{count-split}
 
 pub record Balanced (s : State) : Type 0 where

@@ -24,7 +24,7 @@ use Rattle.rules.proofs.Order.{Rising, rising-all, Ordered, retired-rep
 use Rattle.rules.proofs.Apart.{edge-end}
 use Rattle.rules.proofs.Settled.{edge-timed, after-same}
 use Rattle.rules.proofs.Skipping.{skip}
-use Rattle.rules.proofs.Totals.{final-ordered}
+use Rattle.rules.proofs.Printed.{final-ordered}
 
 -- ---- lists that read alike
 

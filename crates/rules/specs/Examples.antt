@@ -9,7 +9,8 @@ use Rattle.rules.specs.Lists.{any}
 use Rattle.rules.specs.Samples.{Trace}
 use Rattle.rules.specs.Edges.{Kind, isEdge, kinds}
 use Rattle.rules.specs.Machine.{final}
-use Rattle.rules.specs.Records.{replies, records, totals, Totals}
+use Rattle.rules.specs.declared.Totals.{Totals}
+use Rattle.rules.specs.Records.{replies, records, totals}
 
 -- f i, f (i+1), .. : n of them
 unfoldable pub table : (ℕ → ℕ) → ℕ → ℕ → List ℕ

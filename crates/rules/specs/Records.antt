@@ -10,6 +10,7 @@ use Rattle.rules.specs.declared.Estimate.{Estimate}
 use Rattle.rules.specs.declared.Estimate.the-variants.{Lone, Average}
 use Rattle.rules.specs.declared.Marks.{Marks}
 use Rattle.rules.specs.declared.Reply.{Reply}
+use Rattle.rules.specs.declared.Totals.{Totals}
 use Rattle.rules.specs.Lists.{joined}
 use Rattle.rules.specs.Replies.{level}
 use Rattle.rules.specs.Machine.{State}
@@ -53,14 +54,6 @@ abbrev pub replies : State → List Reply
 replies s = s .done ++ s .live
 
 -- "the totals found, replies (opened and not removed), sidelobe, garbled, lost, phantoms"
-pub record Totals : Type 0 where
-  pub found : ℕ
-  pub replies : ℕ
-  pub sidelobe : ℕ
-  pub garbled : ℕ
-  pub lost : ℕ
-  pub phantoms : ℕ
-
 unfoldable pub totals : State → Totals
 totals s =
     let c = s .counts in

@@ -95,3 +95,13 @@ pub enum Fate {
     Lost,
     Opens,
 }
+
+// The six totals of a sweep. Replies are those opened and not removed.
+pub struct Totals {
+    pub found: u16,
+    pub replies: u16,
+    pub sidelobe: u16,
+    pub garbled: u16,
+    pub lost: u16,
+    pub phantoms: u16,
+}

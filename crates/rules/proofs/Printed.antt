@@ -13,7 +13,8 @@ use Rattle.rules.specs.Samples.{Trace, sweepLimit}
 use Rattle.rules.specs.Edges.{Edge, stands, edgeAt}
 use Rattle.rules.specs.Replies.{f1}
 use Rattle.rules.specs.Machine.{isBracket, bracketAt, bracketsBelow, after, final}
-use Rattle.rules.specs.Records.{rangeOf, replies, Totals, totals}
+use Rattle.rules.specs.declared.Totals.{Totals}
+use Rattle.rules.specs.Records.{rangeOf, replies, totals}
 use Rattle.rules.proofs.ListLaws.{all-map}
 use Rattle.rules.proofs.Outcomes.{Accounted, accounted}
 use Rattle.rules.proofs.Order.{Rising, rising-all, Ordered, ordered}
