@@ -94,7 +94,7 @@ module _ (set : Settings) (ok : Allowed set) (T : Trace) where
         go (v ∷ l) zero h = h .0
         go (v ∷ l) (suc n) h = go l n (h .1)
 
-    framed-byte : (u : ℕ) (f : Pulse) → Framing set (edgeAt set T) u f → f .value ≤ 255
+    pub framed-byte : (u : ℕ) (f : Pulse) → Framing set (edgeAt set T) u f → f .value ≤ 255
     framed-byte u f (at168 p q) = rw q (value-byte (u + 168))
     framed-byte u f (at167 p q) = rw q (value-byte (u + 167))
     framed-byte u f (at169 p q) = rw q (value-byte (u + 169))

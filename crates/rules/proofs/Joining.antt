@@ -1,6 +1,6 @@
 -- Replies by pieces: what was handed out once T is taken, with what a take of P then hands out, is what is handed out once T and P are taken.
 -- With what is left at a close it is every reply of the trace.
-use Prim.Native.Nat.{ℕ, zero, suc, _+_, _≤_}
+use Prim.Native.Nat.{ℕ, zero, suc, _+_, _-_, _*_, _≤_}
 use native.Mathlib.Omega.{arith}
 use mathlib.Core.Path.{_≡_, refl, sym, ap, _∙_, subst}
 use mathlib.Core.Bool.{Bool, true, false, cond}
@@ -13,12 +13,13 @@ use Rattle.rules.specs.Settings.{Settings, Allowed}
 use Rattle.rules.specs.Lists.{filter, reject, joined}
 use Rattle.rules.specs.Samples.{Trace, _⧺_}
 use Rattle.rules.specs.Replies.{f1}
-use Rattle.rules.specs.Machine.{final}
-use Rattle.rules.specs.Records.{recordOf, records, replies}
+use Rattle.rules.specs.Edges.{edgeAt}
+use Rattle.rules.specs.Machine.{after, final}
+use Rattle.rules.specs.Records.{bytes, recordOf, records, replies}
 use Rattle.rules.specs.Calls.{due, handed, fresh, rest}
 use Rattle.rules.proofs.Truth.{impossible}
 use Rattle.rules.proofs.Order.{Rising, Earlier, split-rising, Ordered}
-use Rattle.rules.proofs.Settled.{settled}
+use Rattle.rules.proofs.Settled.{settled, due-after, due-none, after-append, edge-timed}
 use Rattle.rules.proofs.Printed.{final-ordered}
 
 due-earlier : (n : ℕ) → Earlier (due n)
@@ -75,9 +76,80 @@ module _ (set : Settings) (ok : Allowed set) where
       let n = length (T .flags) in
       split-rising (due n) (due-earlier n) 0 n (replies (final set T)) (final-ordered set T .rising)
 
+-- ---- by pieces
+
+-- lists with the same beginning
+pub append-same : (d l k : List Reply) → d ++ l ≡ d ++ k → l ≡ k
+append-same [] l k e = e
+append-same (x ∷ d) l k e = append-same d l k (cons-tail e)
+  where
+    cons-tail : {a b : List Reply} → x ∷ a ≡ x ∷ b → a ≡ b
+    cons-tail q = cc
+
+-- three traces end to end
+pub assoc : (T P Q : Trace) → T ⧺ (P ⧺ Q) ≡ (T ⧺ P) ⧺ Q
+assoc T P Q =
+    let f = append-assoc (T .flags) (P .flags) (Q .flags) in
+    let v = append-assoc (T .values) (P .values) (Q .values) in
+    λ i. record { flags = sym f i; values = sym v i }
+
+module _ (set : Settings) (ok : Allowed set) where
+  -- a take in two pieces hands out what the two hand out
+  pub fresh-join : (T P Q : Trace) → length (T .flags) ≡ length (T .values) → length (P .flags) ≡ length (P .values)
+      → fresh set T (P ⧺ Q) ≡ fresh set T P ++ fresh set (T ⧺ P) Q
+  fresh-join T P Q a b =
+      append-same (handed set T) (fresh set T (P ⧺ Q)) (fresh set T P ++ fresh set (T ⧺ P) Q)
+      (sym (handed-fresh set ok T (P ⧺ Q) a)
+      ∙ ap (handed set) (assoc T P Q)
+      ∙ handed-fresh set ok (T ⧺ P) Q (omega (arith, length-append (T .flags) (P .flags), length-append (T .values) (P .values)))
+      ∙ ap {B = List Reply} (λ z. z ++ fresh set (T ⧺ P) Q) (handed-fresh set ok T P a)
+      ∙ append-assoc (handed set T) (fresh set T P) (fresh set (T ⧺ P) Q))
+
+  -- what was handed out are the replies done after all ticks but 178
+  pub handed-done : (T : Trace) → handed set T ≡ after _+_ set (edgeAt set T) (length (T .flags) - 178) .done
+  unfolding handed final after
+  handed-done T = go (leb 178 (length (T .flags))) refl
+    where
+      n : ℕ
+      n = length (T .flags)
+
+      l : List Reply
+      l = replies (after _+_ set (edgeAt set T) (length (T .flags)))
+
+      go : (b : Bool) → leb 178 (length (T .flags)) ≡ b → filter (due (length (T .flags))) l ≡ after _+_ set (edgeAt set T) (length (T .flags) - 178) .done
+      go true e = due-after set (edgeAt set T) (edge-timed set T) n n (leb-true 178 n e) (omega arith)
+      go false e =
+          let z : n - 178 ≡ 0 = omega (arith, leb-false 178 n e) in
+          due-none n (omega (arith, leb-false 178 n e)) l ∙ sym (ap (λ (c : ℕ). after _+_ set (edgeAt set T) c .done) z)
+
+  -- the machine after all ticks but 178 does not change by what follows
+  pub after-known : (T P : Trace) → length (T .flags) ≡ length (T .values)
+      → after _+_ set (edgeAt set (T ⧺ P)) (length (T .flags) - 178) ≡ after _+_ set (edgeAt set T) (length (T .flags) - 178)
+  unfolding after
+  after-known T P a = go (leb 178 (length (T .flags))) refl
+    where
+      n : ℕ
+      n = length (T .flags)
+
+      go : (b : Bool) → leb 178 (length (T .flags)) ≡ b
+          → after _+_ set (edgeAt set (T ⧺ P)) (length (T .flags) - 178) ≡ after _+_ set (edgeAt set T) (length (T .flags) - 178)
+      go true e = after-append set ok T P a (n - 178) (omega (arith, leb-true 178 n e))
+      go false e =
+          let z : n - 178 ≡ 0 = omega (arith, leb-false 178 n e) in
+          ap (after _+_ set (edgeAt set (T ⧺ P))) z ∙ sym (ap (after _+_ set (edgeAt set T)) z)
+
 -- ---- records end to end
 
 pub records-append : (l m : List Reply) → records (l ++ m) ≡ records l ++ records m
 unfolding records
 records-append [] m = refl
 records-append (r ∷ l) m = ap {B = List ℕ} (λ z. recordOf r ++ z) (records-append l m) ∙ sym (append-assoc (recordOf r) (joined (map recordOf l)) (joined (map recordOf m)))
+
+record-length : (r : Reply) → length (recordOf r) ≡ 18
+unfolding recordOf bytes
+record-length r = refl
+
+pub records-length : (l : List Reply) → length (records l) ≡ 18 * length l
+unfolding records
+records-length [] = refl
+records-length (r ∷ l) = omega (arith, length-append (recordOf r) (joined (map recordOf l)), record-length r, records-length l)

@@ -29,7 +29,7 @@ pub record TwoBytes (x : Totals) : Type 0 where
   pub lost : x .lost < 65536
   pub phantoms : x .phantoms < 65536
 
-brackets-most : (set : Settings) (E : ℕ → Edge) (n : ℕ) → bracketsBelow set E n ≤ n
+pub brackets-most : (set : Settings) (E : ℕ → Edge) (n : ℕ) → bracketsBelow set E n ≤ n
 unfolding bracketsBelow
 brackets-most set E zero = omega arith
 brackets-most set E (suc n) = go (stands (E n) && isBracket (bracketAt set E n)) (brackets-most set E n)

@@ -133,7 +133,7 @@ module _ (set : Settings) where
     over-done m n h d l y =
         filter-append (over m) d l ∙ ap {B = List Reply} (λ z. filter (over m) d ++ z) (not-over m n h l y) ∙ append-nil (filter (over m) d)
 
-    step-done : (u : ℕ) (s : State) → step _+_ set E u s .done ≡ retired u s .done
+    pub step-done : (u : ℕ) (s : State) → step _+_ set E u s .done ≡ retired u s .done
     unfolding step
     step-done u s = go (stands (E u))
       where

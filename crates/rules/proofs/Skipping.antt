@@ -5,6 +5,7 @@ use mathlib.Core.Path.{_≡_, refl, sym, ap, _∙_, subst}
 use mathlib.Core.Bool.{Bool, true, false, cond}
 use mathlib.Core.List.{List, [], _∷_, _++_, append-nil, append-assoc}
 use lib.Dec.{leb, ltb}
+use lib.ListN.{length, length-append}
 use borrow.Author.Tests.{leb-true, leb-false, ltb-true, ltb-false, lt-ltb, le-ltb}
 use Rattle.rules.specs.declared.Reply.{Reply}
 use Rattle.rules.specs.Settings.{Settings}
@@ -15,7 +16,7 @@ use Rattle.rules.specs.Machine.{State, retired, bracketAt, edgeStep, ste
 use Rattle.rules.specs.Records.{replies}
 use Rattle.rules.proofs.ListLaws.{filter-none, reject-none, all-map}
 use Rattle.rules.proofs.Order.{Rising, rising-behind, none-later, ended-earlier, Timed, Ordered, ordered}
-use Rattle.rules.proofs.Settled.{Young, aged}
+use Rattle.rules.proofs.Settled.{Young, aged, step-done, edge-done}
 
 -- ---- retiring twice
 
@@ -115,3 +116,28 @@ module _ (set : Settings) (E : ℕ → Edge) (timed : Timed E) where
       (ap (λ (s : State). edgeStep _+_ set e b s)
       (sym (retired-twice u (suc u) (omega arith) c (after _+_ set E c) (ordered set E timed c .rising))
       ∙ ap (retired (suc u)) (skip-to c u h (λ t a m. p t a (omega arith)))))
+
+  -- what is done stays done: the list only grows
+  step-grows : (u : ℕ) (s : State) → length (s .done) ≤ length (step _+_ set E u s .done)
+  unfolding retired
+  step-grows u s =
+      subst (λ (d : List Reply). length (s .done) ≤ length d) (sym (step-done set E timed u s)) (omega (arith, length-append (s .done) (filter (ended u) (s .live))))
+
+  pub done-grows : (c k : ℕ) → length (after _+_ set E c .done) ≤ length (after _+_ set E (k + c) .done)
+  unfolding after
+  done-grows c zero = let z : 0 + c ≡ c = omega arith in rw z (omega arith)
+  done-grows c (suc k) =
+      let z : suc k + c ≡ suc (k + c) = omega arith in
+      rw z (omega (arith, step-grows (k + c) (after _+_ set E (k + c)), done-grows c k))
+
+  -- what a visit at u hands out: the replies that are over there
+  pub visit-done : (c u : ℕ) → c ≤ u → ((t : ℕ) → c ≤ t → t < u → stands (E t) ≡ false) → stands (E u) ≡ true
+      → after _+_ set E (suc u) .done ≡ after _+_ set E c .done ++ filter (ended u) (after _+_ set E c .live)
+  unfolding retired
+  visit-done c u h p q =
+      ap (λ (s : State). s .done) (sym (visit c u h p q)) ∙ edge-done set (E u .pulse) (bracketAt set E u) (retired u (after _+_ set E c))
+
+  pub skip-done : (c u : ℕ) → c ≤ suc u → ((t : ℕ) → c ≤ t → t ≤ u → stands (E t) ≡ false)
+      → after _+_ set E (suc u) .done ≡ after _+_ set E c .done ++ filter (ended u) (after _+_ set E c .live)
+  unfolding retired
+  skip-done c u h p = ap (λ (s : State). s .done) (sym (skip-to c u h p))

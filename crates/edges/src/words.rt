@@ -1,0 +1,27 @@
+// Words as rows of ticks: moving one on, and going through its set bits.
+ghost use Prim.Native.Nat.{_<_, _≤_};
+ghost use Rattle.edges.specs.Words.{Slid, Lowest, WithoutLowest};
+
+// The word r ticks on, 1 to 64: the r low bits of `now` come after the 64 ticks of `before`, whose first r drop out.
+pub fn slide(before: u64, now: u64, r: u32) -> u64
+    requires { ⌜ (0 < r) × (r ≤ 64) ⌝ }
+    ensures { λ x. ⌜ Slid before now r x ⌝ }
+{
+    (now << (64 - r)) | ((before >> 1) >> (r - 1))
+}
+
+// The number of the lowest set bit.
+pub fn lowest(x: u64) -> u32
+    requires { ⌜ 0 < x ⌝ }
+    ensures { λ r. ⌜ Lowest x r ⌝ }
+{
+    u64::trailing_zeros(x)
+}
+
+// The word without its lowest set bit.
+pub fn without_lowest(x: u64) -> u64
+    requires { ⌜ 0 < x ⌝ }
+    ensures { λ r. ⌜ WithoutLowest x r ⌝ }
+{
+    x & (x - 1)
+}
