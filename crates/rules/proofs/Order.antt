@@ -157,7 +157,7 @@ after-short true true l ks r h k = go (leb 4 (length ks)) refl
     go true q = omega arith
     go false q = omega (arith, length-append ks (r ∷ []), leb-false 4 (length ks) q)
 
-bracket-short : (e : Pulse) (b : Bracket) (s : State) → length (s .live) ≤ 4 → length (bracket _+_ e b s .live) ≤ 4
+pub bracket-short : (e : Pulse) (b : Bracket) (s : State) → length (s .live) ≤ 4 → length (bracket _+_ e b s .live) ≤ 4
 unfolding bracket fate
 bracket-short e Without s h = h
 bracket-short e (With f) s h =

@@ -79,7 +79,7 @@ replicate-zero zero k = refl
 replicate-zero (suc n) zero = refl
 replicate-zero (suc n) (suc k) = replicate-zero n k
 
-zeros-alike : (w : List ℕ) (n k : ℕ) → getD (w ++ replicate n 0) k 0 ≡ getD w k 0
+pub zeros-alike : (w : List ℕ) (n k : ℕ) → getD (w ++ replicate n 0) k 0 ≡ getD w k 0
 zeros-alike [] n k = replicate-zero n k
 zeros-alike (x ∷ w) n zero = refl
 zeros-alike (x ∷ w) n (suc k) = zeros-alike w n k

@@ -176,11 +176,11 @@ past-A F t h =
     ap (λ (b : ℕ). eqb (b % 2) 1) (getD-drop t (0 ∷ 0 ∷ F) 2 0 ∙ List·getD-eq-default (0 ∷ 0 ∷ F) 0 {n = t + 2} (omega arith))
 
 -- without A there is no lead, and high video falls
-lead-A : (w : List ℕ) → A w 2 ≡ false → lead w ≡ false
+pub lead-A : (w : List ℕ) → A w 2 ≡ false → lead w ≡ false
 unfolding lead
 lead-A w h = rw h
 
-falls-A : (w : List ℕ) → A w 2 ≡ false → falls w ≡ true
+pub falls-A : (w : List ℕ) → A w 2 ≡ false → falls w ≡ true
 unfolding falls
 falls-A w h = rw h
 

@@ -1,0 +1,166 @@
+-- An edge on the machine of a state: sums of 16 bits are those of the rules, and an edge that reaches no open reply changes nothing.
+use Prim.Native.Nat.{ℕ, _+_, _-_, _%_, _^_, _<_}
+use native.Mathlib.Omega.{arith}
+use mathlib.Core.Path.{_≡_, refl, sym, ap, ap₂, _∙_}
+use mathlib.Core.Bool.{Bool, false, cond}
+use mathlib.Core.List.{List, [], _∷_, _++_}
+use Rattle.rules.specs.declared.Reply.{Reply}
+use Rattle.rules.specs.declared.Pulse.{Pulse}
+use Rattle.rules.specs.declared.Counts.{Counts}
+use Rattle.rules.specs.declared.Machine.{Machine}
+use Rattle.rules.specs.declared.Estimate.the-variants.{Average}
+use Rattle.rules.specs.declared.Bracket.{Bracket}
+use Rattle.rules.specs.declared.Bracket.the-variants.{Without, With}
+use Rattle.rules.specs.declared.Fate.{Fate}
+use Rattle.rules.specs.declared.Fate.the-variants.{Sidelobe, Garbled, Lost, Opens}
+use Rattle.rules.specs.Settings.{Settings, standard}
+use Rattle.rules.specs.Lists.{any, reject, count, All}
+use Rattle.rules.specs.Replies.{Verdict, f1, position, takes, bitOf, level, averaged, average, agrees, verdict, settle, heardAt, hear, speaks, isPhantom}
+use Rattle.rules.specs.Ranges.{Ranged}
+use Rattle.rules.specs.Machine.{State, tally, fate, opened, liveAfter, bracket, dealFrom, deal, edgeStep}
+use Rattle.rules.proofs.Truth.{or-left, or-right}
+use Rattle.rules.proofs.ListLaws.{all-reject, all-append}
+use Rattle.rules.proofs.Outcomes.{Balanced}
+use Rattle.rules.proofs.Ranges.{ranged-opened, in-range}
+use Rattle.replies.specs.Sums.{capped}
+use Rattle.machine.specs.Places.{anyIn, isSettling, reaches, stepOn, machineOf}
+use Rattle.machine.specs.Post.{Small, Fits, EdgePost, CoversPost}
+use Rattle.machine.proofs.Placed.{any-placed, step-placed}
+
+-- ---- sums
+
+cap-is : (a b : ℕ) → a < 32768 → capped a b ≡ a + b
+cap-is a b h = let e : a % 32768 ≡ a = omega arith in ap (λ (x : ℕ). x + b) e
+
+module _ (r : Reply) (f : Ranged r) where
+  same-settle : (k : ℕ) (x : Verdict) → settle capped k x (r .word) ≡ settle _+_ k x (r .word)
+  same-settle k x =
+      let p = cap-is (r .word .settled) (2 ^ bitOf k) (omega (arith, f .settled)) in
+      let q = cap-is (r .word .code) (cond (x .code) (2 ^ bitOf k) 0) (omega (arith, f .settled, f .code)) in
+      let t = cap-is (r .word .unsure) (cond (x .confidence) 0 (2 ^ bitOf k)) (omega (arith, f .settled, f .unsure)) in
+      λ i. record { settled = p i; code = q i; unsure = t i }
+
+  same-average : (v : ℕ) → average capped (r .reference) v ≡ average _+_ (r .reference) v
+  unfolding average
+  same-average v =
+      let g = in-range r f in
+      let p = cap-is (r .reference .n) 1 (omega (arith, g .n)) in
+      let q = cap-is (r .reference .s) v (omega (arith, g .s)) in
+      λ i. record { estimate = Average (averaged (level (r .reference .estimate)) v); n = p i; s = q i }
+
+  same-hear : (set : Settings) (e : Pulse) (other : Bool) → hear capped set e other r ≡ hear _+_ set e other r
+  unfolding hear
+  same-hear set e other =
+      let k = position (f1 r) (e .tick .0) in
+      let x = verdict (e .main) (agrees set (e .value) r) other in
+      let h : heardAt capped k e x r ≡ heardAt _+_ k e x r =
+      λ i. record { f1 = r .f1; marks = r .marks; word = same-settle k x i; reference = cond (x .confidence) (same-average (e .value) i) (r .reference) } in
+      ap (λ (y : Reply). cond (takes k (r .word .settled)) y r) h
+
+same-deal : (set : Settings) (e : Pulse) (before l : List Reply) → All Ranged l → dealFrom capped set e before l ≡ dealFrom _+_ set e before l
+same-deal set e before [] h = refl
+same-deal set e before (r ∷ l) h =
+    ap₂ {C = List Reply} (λ x m. x ∷ m) (same-hear r (h .0) set e (any (speaks set e) (before ++ l))) (same-deal set e (before ++ (r ∷ [])) l (h .1))
+
+module _ (p : ℕ) (c : Counts) (h : Small c) where
+  same-tally : (z : Fate) → tally capped z p c ≡ tally _+_ z p c
+  same-tally Sidelobe =
+      let a = cap-is (c .found) 1 (h .found) in
+      let b = cap-is (c .sidelobe) 1 (h .sidelobe) in
+      λ i. record { found = a i; opened = c .opened; sidelobe = b i; garbled = c .garbled; lost = c .lost; phantoms = c .phantoms }
+  same-tally Garbled =
+      let a = cap-is (c .found) 1 (h .found) in
+      let b = cap-is (c .garbled) 1 (h .garbled) in
+      let d = cap-is (c .phantoms) p (h .phantoms) in
+      λ i. record { found = a i; opened = c .opened; sidelobe = c .sidelobe; garbled = b i; lost = c .lost; phantoms = d i }
+  same-tally Lost =
+      let a = cap-is (c .found) 1 (h .found) in
+      let b = cap-is (c .lost) 1 (h .lost) in
+      let d = cap-is (c .phantoms) p (h .phantoms) in
+      λ i. record { found = a i; opened = c .opened; sidelobe = c .sidelobe; garbled = c .garbled; lost = b i; phantoms = d i }
+  same-tally Opens =
+      let a = cap-is (c .found) 1 (h .found) in
+      let b = cap-is (c .opened) 1 (h .opened) in
+      let d = cap-is (c .phantoms) p (h .phantoms) in
+      λ i. record { found = a i; opened = b i; sidelobe = c .sidelobe; garbled = c .garbled; lost = c .lost; phantoms = d i }
+
+ranged-after : (x : Fate) (l ks : List Reply) (r : Reply) → All Ranged l → All Ranged ks → Ranged r → All Ranged (liveAfter x l ks r)
+ranged-after Sidelobe l ks r h k f = h
+ranged-after Garbled l ks r h k f = k
+ranged-after Lost l ks r h k f = k
+ranged-after Opens l ks r h k f = all-append Ranged ks (r ∷ []) k (f, tt)
+
+module _ (e : Pulse) (s : State) where
+  same-bracket : (b : Bracket) → Fits e b s → bracket capped e b s ≡ bracket _+_ e b s
+  unfolding bracket
+  same-bracket Without h = refl
+  same-bracket (With f) h =
+      let ks = reject (isPhantom (e .tick .0)) (s .live) in
+      let p = count (isPhantom (e .tick .0)) (s .live) in
+      λ i. record {
+        done = s .done;
+        live = liveAfter (fate e f ks) (s .live) ks (opened e f ks);
+        counts = same-tally p (s .counts) (h .counts) (fate e f ks) i;
+      }
+
+  ranged-bracket : (b : Bracket) → Fits e b s → All Ranged (bracket _+_ e b s .live)
+  unfolding bracket
+  ranged-bracket Without h = h .ranged
+  ranged-bracket (With f) h =
+      let ks = reject (isPhantom (e .tick .0)) (s .live) in
+      ranged-after (fate e f ks) (s .live) ks (opened e f ks) (h .ranged) (all-reject Ranged (isPhantom (e .tick .0)) (s .live) (h .ranged))
+      (ranged-opened e f ks (h .value) (h .second))
+
+  same-step : (set : Settings) (b : Bracket) → Fits e b s → edgeStep capped set e b s ≡ edgeStep _+_ set e b s
+  unfolding edgeStep deal
+  same-step set b h =
+      let n = bracket _+_ e b s in
+      let d = same-deal set e [] (n .live) (ranged-bracket b h) in
+      ap (deal capped set e) (same-bracket b h) ∙ (λ i. record { done = n .done; live = d i; counts = n .counts })
+
+pub edge-post : (m : Machine) (e : Pulse) (b : Bracket) (r : Machine) → r ≡ stepOn capped standard e b m → EdgePost m e b r
+edge-post m e b r h =
+    record {
+      total = h;
+      result = λ s is fits. h ∙ ap (stepOn capped standard e b) is ∙ step-placed capped e standard b s (fits .four) ∙ ap machineOf (same-step e s standard b fits);
+    }
+
+-- the counts are small where found is
+pub balanced-small : (s : State) → Balanced s → s .counts .found < 32768 → Small (s .counts)
+balanced-small s h k =
+    record {
+      found = k;
+      opened = omega (arith, h .fates);
+      sidelobe = omega (arith, h .fates);
+      garbled = omega (arith, h .fates);
+      lost = omega (arith, h .fates);
+      phantoms = omega (arith, h .fates, h .kept);
+    }
+
+-- ---- an edge that reaches no open reply
+
+takes-not : (k w : ℕ) → isSettling k ≡ false → takes k w ≡ false
+takes-not k w h = rw h
+
+module _ (plus : ℕ → ℕ → ℕ) (set : Settings) (e : Pulse) where
+  pub hear-away : (other : Bool) (r : Reply) → reaches (e .tick .0) r ≡ false → hear plus set e other r ≡ r
+  unfolding hear reaches
+  hear-away other r h = rw (takes-not (position (f1 r) (e .tick .0)) (r .word .settled) h)
+
+  deal-away : (before l : List Reply) → any (reaches (e .tick .0)) l ≡ false → dealFrom plus set e before l ≡ l
+  deal-away before [] h = refl
+  deal-away before (r ∷ l) h =
+      ap₂ {C = List Reply} (λ x m. x ∷ m) (hear-away (any (speaks set e) (before ++ l)) r (or-left (reaches (e .tick .0) r) (any (reaches (e .tick .0)) l) h))
+      (deal-away (before ++ (r ∷ [])) l (or-right (reaches (e .tick .0) r) (any (reaches (e .tick .0)) l) h))
+
+  edge-away : (s : State) → any (reaches (e .tick .0)) (s .live) ≡ false → edgeStep plus set e Without s ≡ s
+  unfolding edgeStep deal bracket
+  edge-away s h = λ i. record { done = s .done; live = deal-away [] (s .live) h i; counts = s .counts }
+
+pub covers-post : (m : Machine) (u : ℕ) (x : Bool) → x ≡ anyIn (reaches u) (m .places) → CoversPost m u x
+covers-post m u x h =
+    record {
+      total = h;
+      result = λ no s is four e at.
+          edge-away _+_ standard e s (ap (λ (t : ℕ). any (reaches t) (s .live)) at ∙ sym (any-placed (reaches u) (s .live) four) ∙ ap (λ (n : Machine). anyIn (reaches u) (n .places)) (sym is) ∙ sym h ∙ no);
+    }

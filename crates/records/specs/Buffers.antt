@@ -1,0 +1,8 @@
+-- Bytes written over a part of a buffer.
+use Prim.Native.Nat.{ℕ, _+_}
+use mathlib.Core.List.{List, _++_}
+use lib.ListN.{length, take, drop}
+
+-- the buffer b with the bytes l from place at on
+unfoldable pub over-at : List ℕ → ℕ → List ℕ → List ℕ
+over-at l at b = take at b ++ l ++ drop (at + length l) b

@@ -1,0 +1,339 @@
+-- A piece, block by block, and the zeros past the end, 64 at a time. What each block hands out comes behind what the blocks before it did.
+use Prim.Native.Nat.{ℕ, zero, suc, _+_, _-_, _*_, _/_, _≤_, _<_}
+use native.Mathlib.Omega.{arith}
+use mathlib.Core.Path.{_≡_, refl, sym, ap, ap₂, _∙_, subst}
+use mathlib.Core.Bool.{Bool, true, false}
+use mathlib.Core.List.{List, [], _∷_, _++_, append-nil, append-assoc}
+use lib.ListN.{length, getD, take, drop, replicate, length-append, length-take, length-drop, length-replicate, replicate-append-replicate}
+use lib.Seq.{getD-take, getD-drop, take-add, take-all, take-append-add, length-take-le}
+use Rattle.rules.specs.declared.Reply.{Reply}
+use Rattle.rules.specs.declared.Totals.{Totals}
+use Rattle.rules.specs.Settings.{standard}
+use Rattle.rules.specs.Lists.{All}
+use Rattle.rules.specs.Samples.{Trace, _⧺_, A, P, N, M, odd, sweepLimit}
+use Rattle.rules.specs.Edges.{stands, edgeAt}
+use Rattle.rules.specs.Machine.{State, after, final}
+use Rattle.rules.specs.Records.{records, replies, totals}
+use Rattle.rules.specs.Calls.{fresh, rest, handed, silence, takeRoom, closeRoom}
+use Rattle.rules.proofs.ListLaws.{all-append}
+use Rattle.rules.proofs.Apart.{edge-end}
+use Rattle.rules.proofs.Outcomes.{Balanced, after-balanced}
+use Rattle.rules.proofs.Joining.{append-same, assoc, fresh-join, handed-fresh}
+use Rattle.rules.proofs.HandingOut.{fresh-most, rest-most}
+use Rattle.rules.proofs.PastEnd.{zeros-alike, edge-silence, rest-silence, past-end, after-silence}
+use Rattle.edges.specs.declared.packing.Planes.{Planes}
+use Rattle.edges.specs.Words.{bit, Holds, HoldsPart}
+use Rattle.edges.specs.Packing.{Packed, PackedPart}
+use Rattle.edges.proofs.BitLaws.{zero-bit, bit-above}
+use Rattle.records.specs.Buffers.{over-at}
+use Rattle.machine.specs.Places.{machineOf}
+use Rattle.sweep.specs.declared.blocks.Run.{Run}
+use Rattle.sweep.specs.State.{frontOf, recentOf}
+use Rattle.sweep.specs.Steps.{Low, stateAt, Bounded, Reads, valueOf, Fed, Next, BlockPost, Begins, FeedPost, Ends, DrainPost, totalsFrom}
+use Rattle.sweep.proofs.Answers.{standard-allowed, join-nothing}
+use Rattle.sweep.proofs.Spans.{value-law}
+use Rattle.sweep.proofs.Working.{over-nil}
+
+abbrev nothing : Trace
+nothing = record { flags = []; values = [] }
+
+-- nothing taken, nothing handed out
+fresh-nothing : (T : Trace) → length (T .flags) ≡ length (T .values) → fresh standard T nothing ≡ []
+fresh-nothing T a =
+    append-same (handed standard T) (fresh standard T nothing) []
+    (sym (handed-fresh standard standard-allowed T nothing a) ∙ ap (handed standard) (join-nothing T) ∙ sym (append-nil (handed standard T)))
+
+fed-nothing : (T : Trace) (o : Run) (b : List ℕ) → length (T .flags) ≡ length (T .values) → o .front ≡ frontOf (T .flags) → o .machine ≡ machineOf (stateAt T (length (T .flags) - 178))
+    → o .at ≡ 0 → Fed T nothing b o b
+fed-nothing T o b a f m p =
+    let e = fresh-nothing T a in
+    record {
+      front = f ∙ ap frontOf (sym (append-nil (T .flags)));
+      machine =
+          m
+          ∙ ap (λ (n : ℕ). machineOf (stateAt T (n - 178))) (ap length (sym (append-nil (T .flags))))
+          ∙ ap (λ (R : Trace). machineOf (stateAt R (length (T .flags ++ []) - 178))) (sym (join-nothing T));
+      place = p ∙ ap (λ (l : List Reply). 18 * length l) (sym e);
+      buffer = sym (ap (λ (l : List Reply). over-at (records l) 0 b) e ∙ over-nil 0 b);
+    }
+
+-- ---- a piece
+
+all-take : (n : ℕ) (l : List ℕ) → All (λ v. v ≤ 255) l → All (λ v. v ≤ 255) (take n l)
+all-take zero l h = tt
+all-take (suc n) [] h = tt
+all-take (suc n) (x ∷ l) h = (h .0, all-take n l (h .1))
+
+-- 64 ticks are a whole word
+whole-word : (F : ℕ → Bool) (o x : ℕ) → Holds F o x → HoldsPart F o 64 x
+whole-word F o x h = record { below = h .below; at = h .at; rest = λ i l. bit-above x 64 i (h .below) l }
+
+pub packed-all : (flags : List ℕ) (o r : ℕ) (x : Planes) → r ≡ 64 → Packed flags o x → PackedPart flags o r x
+packed-all flags o r x e h =
+    subst (λ (n : ℕ). PackedPart flags o n x) (sym e)
+    (record { a = whole-word (A flags) o (x .a) (h .a); p = whole-word (P flags) o (x .p) (h .p); n = whole-word (N flags) o (x .n) (h .n); m = whole-word (M flags) o (x .m) (h .m) })
+
+-- the first n ticks of a piece
+abbrev upTo : List ℕ → List ℕ → ℕ → Trace
+upTo flags values n = record { flags = take n flags; values = take n values }
+
+-- the next r
+abbrev block : List ℕ → List ℕ → ℕ → ℕ → Trace
+block flags values n r = record { flags = take r (drop n flags); values = take r (drop n values) }
+
+up-to-more : (flags values : List ℕ) (n r : ℕ) → upTo flags values n ⧺ block flags values n r ≡ upTo flags values (n + r)
+up-to-more flags values n r =
+    let f = sym (take-add n r flags) in
+    let v = sym (take-add n r values) in
+    λ i. record { flags = f i; values = v i }
+
+-- flags of bytes that are the same
+flag-A : (F G : List ℕ) (j k : ℕ) → getD F j 0 ≡ getD G k 0 → A F j ≡ A G k
+unfolding A
+flag-A F G j k e = ap odd e
+
+flag-P : (F G : List ℕ) (j k : ℕ) → getD F j 0 ≡ getD G k 0 → P F j ≡ P G k
+unfolding P
+flag-P F G j k e = ap (λ (x : ℕ). odd (x / 2)) e
+
+flag-N : (F G : List ℕ) (j k : ℕ) → getD F j 0 ≡ getD G k 0 → N F j ≡ N G k
+unfolding N
+flag-N F G j k e = ap (λ (x : ℕ). odd (x / 4)) e
+
+flag-M : (F G : List ℕ) (j k : ℕ) → getD F j 0 ≡ getD G k 0 → M F j ≡ M G k
+unfolding M
+flag-M F G j k e = ap (λ (x : ℕ). odd (x / 8)) e
+
+-- the planes of the next r ticks
+low-block : (flags values : List ℕ) (n r : ℕ) (x : Planes) → n + r ≤ length flags → PackedPart flags n r x → Low (block flags values n r .flags) x
+low-block flags values n r x h p =
+    record {
+      a = λ m l. p .a .at m (short m l) ∙ flag-A flags G (n + m) m (at m (short m l));
+      p = λ m l. p .p .at m (short m l) ∙ flag-P flags G (n + m) m (at m (short m l));
+      n = λ m l. p .n .at m (short m l) ∙ flag-N flags G (n + m) m (at m (short m l));
+      m = λ m l. p .m .at m (short m l) ∙ flag-M flags G (n + m) m (at m (short m l));
+    }
+  where
+    G : List ℕ
+    G = take r (drop n flags)
+
+    short : (m : ℕ) → m < length G → m < r
+    short m l = omega (arith, l, length-take r (drop n flags))
+
+    at : (m : ℕ) → m < r → getD flags (n + m) 0 ≡ getD G m 0
+    at m l = sym (getD-take r (drop n flags) m 0 l ∙ getD-drop n flags m 0)
+
+-- ---- what the next block is to the piece
+
+module _ (T : Trace) (o : Run) (recent : List ℕ) (base : ℕ) (flags values b₀ : List ℕ) (g : Begins T o recent base flags values b₀) where
+  -- the trace up to tick n of the piece
+  bounded : (n : ℕ) → n ≤ length flags → Bounded (T ⧺ upTo flags values n)
+  bounded n h =
+      record {
+        bytes = all-append (λ v. v ≤ 255) (T .values) (take n values) (g .bytes) (all-take n values (g .bytes-piece));
+        edges =
+            λ u st. omega (arith, edge-end standard standard-allowed (T ⧺ upTo flags values n) u st, length-append (T .flags) (take n flags), length-take n flags, g .ticks, g .limit);
+      }
+
+  reads : (n : ℕ) → n ≤ length flags → Reads (T ⧺ upTo flags values n) (base + n) recent base values
+  reads n h =
+      record {
+        at =
+            λ k l m.
+            let old = T .values in
+            let e : base ≡ length old = omega (arith, g .ticks, g .alike) in
+            let z : length old + n ≡ base + n = omega arith in
+            ap₂ (λ (r : List ℕ) (c : ℕ). valueOf r c values k) (g .kept) e
+            ∙ value-law old values k (omega arith)
+            ∙ sym (getD-take (length old + n) (old ++ values) k 0 (omega arith))
+            ∙ ap (λ (l : List ℕ). getD l k 0) (take-append-add old values n);
+      }
+
+  room : (n : ℕ) → n ≤ length flags → 18 * length (fresh standard T (upTo flags values n)) ≤ length b₀
+  room n h =
+      let e = length-take-le n flags h in
+      omega (arith, fresh-most standard T (upTo flags values n), e, g .room)
+
+-- ---- the loop over a piece
+
+module _ (o : Run) (recent : List ℕ) (base : ℕ) (flags values b₀ : List ℕ) where
+  -- i ticks of the piece are through
+  pub record Feeding (b : List ℕ) (y : Run) (i : ℕ) : Type 0 where
+    pub same : length b ≡ length b₀
+    pub most : i ≤ length flags
+    pub state : (T : Trace) → Begins T o recent base flags values b₀ → Fed T (upTo flags values i) b₀ y b
+
+  pub feed-start : Feeding b₀ o 0
+  feed-start = record { same = refl; most = omega arith; state = λ T g. fed-nothing T o b₀ (g .alike) (g .front) (g .machine) (g .place) }
+
+  pub feed-next : (b : List ℕ) (y : Run) (i r t : ℕ) (x : Planes) (z : Run) (b′ : List ℕ) → i + r ≤ length flags → t ≡ base + (i + r) → PackedPart flags i r x
+      → BlockPost y x r t recent base values b z b′ → Feeding b y i → Feeding b′ z (i + r)
+  feed-next b y i r t x z b′ h e p k f =
+      record {
+        same = k .same ∙ f .same;
+        most = h;
+        state =
+            λ T g.
+            let n = i + r in
+            let P = upTo flags values i in
+            let Q = block flags values i r in
+            let lf = length-take-le i flags (omega arith) in
+            let lv = length-take-le i values (omega (arith, g .alike-piece)) in
+            let lq : length (take r (drop i flags)) ≡ r = length-take-le r (drop i flags) (omega (arith, length-drop i flags)) in
+            let m = up-to-more flags values i r in
+            subst (λ (R : Trace). Fed T R b₀ z b′) m
+            (k .result T P Q b₀ (f .state T g) lq (low-block flags values i r x h p)
+            (record {
+              alike = g .alike;
+              alike-piece = lf ∙ sym lv;
+              ticks = omega (arith, g .ticks, lf, lq, e);
+              bounded = subst (λ (R : Trace). Bounded (T ⧺ R)) (sym m) (bounded T o recent base flags values b₀ g n h);
+              reads =
+                  subst (λ (R : Trace). Reads (T ⧺ R) t recent base values) (sym m)
+                  (subst (λ (c : ℕ). Reads (T ⧺ upTo flags values n) c recent base values) (sym e) (reads T o recent base flags values b₀ g n h));
+              room = subst (λ (R : Trace). 18 * length (fresh standard T R) ≤ length b₀) (sym m) (room T o recent base flags values b₀ g n h);
+              same = f .same;
+            }));
+      }
+
+  pub feed-end : (b : List ℕ) (y : Run) (i : ℕ) → length flags ≤ i → Feeding b y i → FeedPost o recent base flags values b₀ y b
+  feed-end b y i h f =
+      record {
+        same = f .same;
+        result =
+            λ T g.
+            let a = take-all i flags h in
+            let v = take-all i values (omega (arith, g .alike-piece)) in
+            let e : upTo flags values i ≡ record { flags = flags; values = values } = λ j. record { flags = a j; values = v j } in
+            subst (λ (R : Trace). Fed T R b₀ y b) e (f .state T g);
+      }
+
+-- ---- the ticks past the end
+
+silence-more : (m n : ℕ) → silence m ⧺ silence n ≡ silence (m + n)
+silence-more m n = let z = replicate-append-replicate {A = ℕ} m n 0 in λ i. record { flags = z i; values = z i }
+
+-- zeros, as words
+low-silence : (n : ℕ) (x : Planes) → x ≡ record { a = 0; p = 0; n = 0; m = 0 } → Low (replicate n 0) x
+unfolding A P N M
+low-silence n x e = subst (Low (replicate n 0)) (sym e) (record { a = λ m l. zero-bit m ∙ no-A m; p = λ m l. zero-bit m ∙ no-P m; n = λ m l. zero-bit m ∙ no-N m; m = λ m l. zero-bit m ∙ no-M m })
+  where
+    nil : (m : ℕ) → getD {A = ℕ} [] m 0 ≡ getD (replicate n 0) m 0
+    nil m = sym (zeros-alike [] n m)
+
+    no-A : (m : ℕ) → false ≡ A (replicate n 0) m
+    no-A m = flag-A [] (replicate n 0) m m (nil m)
+
+    no-P : (m : ℕ) → false ≡ P (replicate n 0) m
+    no-P m = flag-P [] (replicate n 0) m m (nil m)
+
+    no-N : (m : ℕ) → false ≡ N (replicate n 0) m
+    no-N m = flag-N [] (replicate n 0) m m (nil m)
+
+    no-M : (m : ℕ) → false ≡ M (replicate n 0) m
+    no-M m = flag-M [] (replicate n 0) m m (nil m)
+
+module _ (T : Trace) (o : Run) (recent : List ℕ) (base : ℕ) (b₀ : List ℕ) (g : Ends T o recent base b₀) where
+  all-zero : (n : ℕ) → All (λ v. v ≤ 255) (replicate n 0)
+  all-zero zero = tt
+  all-zero (suc n) = (omega arith, all-zero n)
+
+  bounded-silence : (n : ℕ) → Bounded (T ⧺ silence n)
+  bounded-silence n =
+      record {
+        bytes = all-append (λ v. v ≤ 255) (T .values) (replicate n 0) (g .bytes) (all-zero n);
+        edges =
+            λ u st.
+            let e : stands (edgeAt standard T u) ≡ true = ap stands (sym (edge-silence standard T n u)) ∙ st in
+            omega (arith, edge-end standard standard-allowed T u e, g .ticks, g .limit);
+      }
+
+  -- a piece of one zero stands for the values past the end
+  reads-silence : (n : ℕ) → Reads (T ⧺ silence n) (base + n) recent base (0 ∷ [])
+  reads-silence n =
+      record {
+        at =
+            λ k l m.
+            let old = T .values in
+            let e : base ≡ length old = omega (arith, g .ticks, g .alike) in
+            ap₂ (λ (r : List ℕ) (c : ℕ). valueOf r c (0 ∷ []) k) (g .kept) e
+            ∙ value-law old (0 ∷ []) k (omega arith)
+            ∙ zeros-alike old 1 k
+            ∙ sym (zeros-alike old n k);
+      }
+
+  -- what n zeros hand out is a beginning of what is left
+  room-silence : (n : ℕ) → n ≤ 448 → 18 * length (fresh standard T (silence n)) ≤ length b₀
+  room-silence n h =
+      let k = 448 - n in
+      let z : n + k ≡ 448 = omega arith in
+      let a : length (replicate {A = ℕ} n 0) ≡ length (replicate {A = ℕ} n 0) = refl in
+      let e = fresh-join standard standard-allowed T (silence n) (silence k) (g .alike) a in
+      let w = ap (fresh standard T) (silence-more n k ∙ ap silence z) in
+      let f = rest-silence standard standard-allowed T 448 (omega arith) in
+      let q = ap length (sym e ∙ w ∙ f) in
+      omega (arith, q, length-append (fresh standard T (silence n)) (fresh standard (T ⧺ silence n) (silence k)), rest-most standard standard-allowed T, g .room)
+
+-- ---- the loop over the zeros
+
+module _ (o : Run) (recent : List ℕ) (base : ℕ) (b₀ : List ℕ) where
+  -- 64 times i zeros are through
+  pub record Draining (b : List ℕ) (y : Run) (i : ℕ) : Type 0 where
+    pub same : length b ≡ length b₀
+    pub most : i ≤ 7
+    pub state : (T : Trace) → Ends T o recent base b₀ → Fed T (silence (64 * i)) b₀ y b
+
+  pub drain-start : Draining b₀ o 0
+  drain-start = record { same = refl; most = omega arith; state = λ T g. fed-nothing T o b₀ (g .alike) (g .front) (g .machine) (g .place) }
+
+  pub drain-next : (b : List ℕ) (y : Run) (i t : ℕ) (x : Planes) (z : Run) (b′ : List ℕ) → i < 7 → t ≡ base + 64 * (i + 1) → x ≡ record { a = 0; p = 0; n = 0; m = 0 }
+      → BlockPost y x 64 t recent base (0 ∷ []) b z b′ → Draining b y i → Draining b′ z (i + 1)
+  drain-next b y i t x z b′ h e p k f =
+      record {
+        same = k .same ∙ f .same;
+        most = omega arith;
+        state =
+            λ T g.
+            let n = 64 * (i + 1) in
+            let w : 64 * i + 64 ≡ n = omega arith in
+            let m = silence-more (64 * i) 64 ∙ ap silence w in
+            subst (λ (R : Trace). Fed T R b₀ z b′) m
+            (k .result T (silence (64 * i)) (silence 64) b₀ (f .state T g) (length-replicate {A = ℕ} 64 0) (low-silence 64 x p)
+            (record {
+              alike = g .alike;
+              alike-piece = refl;
+              ticks = omega (arith, g .ticks, length-replicate {A = ℕ} (64 * i) 0, e);
+              bounded = subst (λ (R : Trace). Bounded (T ⧺ R)) (sym m) (bounded-silence T o recent base b₀ g n);
+              reads =
+                  subst (λ (R : Trace). Reads (T ⧺ R) t recent base (0 ∷ [])) (sym m)
+                  (subst (λ (c : ℕ). Reads (T ⧺ silence n) c recent base (0 ∷ [])) (sym e) (reads-silence T o recent base b₀ g n));
+              room = subst (λ (R : Trace). 18 * length (fresh standard T R) ≤ length b₀) (sym m) (room-silence T o recent base b₀ g n (omega arith));
+              same = f .same;
+            }));
+      }
+
+  pub drain-end : (b : List ℕ) (y : Run) (i : ℕ) → 7 ≤ i → Draining b y i → DrainPost o recent base b₀ y b
+  drain-end b y i h f =
+      record {
+        same = f .same;
+        result = λ T g. let z : 64 * i ≡ 448 = omega (arith, f .most) in subst (λ (n : ℕ). Fed T (silence n) b₀ y b) z (f .state T g);
+      }
+
+-- ---- the totals of a sweep, from the machine after the zeros
+
+totals-final : (T : Trace) → totalsFrom (final standard T .counts) ≡ totals (final standard T)
+unfolding totals final
+totals-final T =
+    let s = after _+_ standard (edgeAt standard T) (length (T .flags)) in
+    let h = after-balanced standard (edgeAt standard T) (length (T .flags)) in
+    let c = s .counts in
+    let r : c .opened - c .phantoms ≡ length (s .done ++ s .live) = omega (arith, h .kept, length-append (s .done) (s .live)) in
+    λ i. record { found = c .found; replies = r i; sidelobe = c .sidelobe; garbled = c .garbled; lost = c .lost; phantoms = c .phantoms }
+
+pub totals-law : (T : Trace) → totalsFrom (stateAt (T ⧺ silence 448) (length (T .flags ++ replicate 448 0) - 178) .counts) ≡ totals (final standard T)
+totals-law T =
+    let N = length (T .flags ++ replicate {A = ℕ} 448 0) in
+    let l : length (T .flags) ≤ N - 178 = omega (arith, length-append (T .flags) (replicate {A = ℕ} 448 0), length-replicate {A = ℕ} 448 0) in
+    ap (λ (s : State). totalsFrom (s .counts)) (after-silence standard standard-allowed T 448 (N - 178))
+    ∙ ap totalsFrom (past-end standard standard-allowed T (N - 178) l .counts)
+    ∙ totals-final T

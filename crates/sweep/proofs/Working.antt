@@ -1,0 +1,260 @@
+-- The machine's loop over the set bits of a span, lowest first. Up to bit k all edges are taken; from there on the bits are those of the span.
+-- What was handed out so far is a beginning of what the whole span hands out, so there is room for it.
+use Prim.Native.Nat.{ℕ, zero, suc, _+_, _-_, _*_, _^_, _≤_, _<_}
+use native.Mathlib.Omega.{arith}
+use mathlib.Core.Path.{_≡_, refl, sym, ap, _∙_, subst}
+use mathlib.Core.Logic.{_⊎_, inl, inr}
+use mathlib.Core.Bool.{Bool, true, false}
+use mathlib.Core.List.{List, [], _∷_, _++_, append-nil, append-assoc}
+use lib.Dec.{leb, ltb}
+use lib.ListN.{length, length-append}
+use borrow.Author.Tests.{ltb-true, ltb-false, leb-true, leb-false}
+use Rattle.rules.specs.declared.Reply.{Reply}
+use Rattle.rules.specs.declared.Machine.{Machine}
+use Rattle.rules.specs.Settings.{standard}
+use Rattle.rules.specs.Lists.{filter}
+use Rattle.rules.specs.Samples.{Trace}
+use Rattle.rules.specs.Edges.{stands, edgeAt}
+use Rattle.rules.specs.Replies.{ended}
+use Rattle.rules.specs.Machine.{State, retired, after}
+use Rattle.rules.specs.Records.{records}
+use Rattle.rules.proofs.Truth.{impossible, same-or}
+use Rattle.rules.proofs.Joining.{append-same, records-append, records-length}
+use Rattle.rules.proofs.Settled.{edge-timed}
+use Rattle.rules.proofs.Skipping.{skip-to, done-grows, visit-done, skip-done}
+use Rattle.machine.specs.Places.{machineOf}
+use Rattle.records.specs.declared.Retired.{Retired}
+use Rattle.records.specs.Buffers.{over-at}
+use Rattle.records.specs.Post.{RetirePost}
+use Rattle.records.proofs.Writing.{over-at-more}
+use Rattle.records.proofs.Handing.{over-at-nil}
+use Rattle.edges.specs.Words.{bit, Lowest, WithoutLowest}
+use Rattle.edges.proofs.BitLaws.{zero-bit}
+use Rattle.edges.specs.Planes.{hasEdge}
+use Rattle.sweep.specs.declared.span.Span.{Span}
+use Rattle.sweep.specs.State.{padded}
+use Rattle.sweep.specs.Steps.{stateAt, Shows, Spanned, Gives, Keeps, VisitPost, WorkPost, TopPost}
+use Rattle.sweep.proofs.Growing.{padded-none}
+use Rattle.sweep.proofs.Spans.{span-stands}
+use Rattle.sweep.proofs.Visiting.{queue}
+
+-- ---- what has been handed out
+
+-- from the state at tick c₀ to that at c the replies l became done, and their records stand in the buffer
+pub record Done (T : Trace) (c₀ c at₀ : ℕ) (b₀ : List ℕ) (b : List ℕ) (m : Machine) (at : ℕ) : Type 0 where
+  pub given : List Reply
+  pub grown : stateAt T c .done ≡ stateAt T c₀ .done ++ given
+  pub machine : m ≡ machineOf (stateAt T c)
+  pub place : at ≡ at₀ + 18 * length given
+  pub buffer : b ≡ over-at (records given) at₀ b₀
+
+pub over-nil : (at : ℕ) (b : List ℕ) → over-at (records []) at b ≡ b
+unfolding records
+over-nil at b = over-at-nil at b
+
+-- more is handed out, and its records stand behind
+done-more : (T : Trace) (c₀ c d at₀ : ℕ) (b₀ b b′ : List ℕ) (m : Machine) (at : ℕ) (x : Retired) (l : List Reply) → Done T c₀ c at₀ b₀ b m at
+    → at + 18 * length l ≤ length b₀ → stateAt T d .done ≡ stateAt T c .done ++ l → Gives l (stateAt T d) at b x b′ → Done T c₀ d at₀ b₀ b′ (x .machine) (x .at)
+done-more T c₀ c d at₀ b₀ b b′ m at x l h room e g =
+    record {
+      given = h .given ++ l;
+      grown = e ∙ ap {B = List Reply} (λ z. z ++ l) (h .grown) ∙ append-assoc (stateAt T c₀ .done) (h .given) l;
+      machine = g .machine;
+      place = omega (arith, g .place, h .place, length-append (h .given) l);
+      buffer =
+          g .buffer
+          ∙ ap {B = List ℕ} (λ z. over-at (records l) at z) (h .buffer)
+          ∙ over-at-more (records (h .given)) (records l) b₀ at₀ at (omega (arith, h .place, records-length (h .given))) (omega arith)
+          ∙ ap (λ (z : List ℕ). over-at z at₀ b₀) (sym (records-append (h .given) l));
+    }
+
+-- ---- the loop
+
+module _ (m₀ : Machine) (s : Span) (r t : ℕ) (recent : List ℕ) (base : ℕ) (values : List ℕ) (at₀ : ℕ) (b₀ : List ℕ) where
+  -- the trace to which all this belongs, and what its r new ticks hand out
+  pub record Given (T : Trace) (l : List Reply) : Type 0 where
+    pub shows : Shows T t s recent base values
+    pub within : r ≤ t
+    pub machine : m₀ ≡ machineOf (stateAt T (t - r - 178))
+    pub done : stateAt T (t - 178) .done ≡ stateAt T (t - r - 178) .done ++ l
+    pub room : at₀ + 18 * length l ≤ length b₀
+
+  pub record Working (b : List ℕ) (m : Machine) (at todo : ℕ) : Type 0 where
+    pub same-length : length b ≡ length b₀
+    pub inside : at₀ ≤ length b₀ → at ≤ length b₀
+    pub below : todo < 2 ^ 64
+    pub k : ℕ
+    pub from : 64 ≤ k + r
+    pub to : k ≤ 64
+    pub clear : (i : ℕ) → i < k → bit todo i ≡ false
+    pub same : (i : ℕ) → k ≤ i → i < 64 → bit todo i ≡ bit (s .due) i
+    pub state : (T : Trace) (l : List Reply) → Given T l → Done T (t - r - 178) (t + k - 242) at₀ b₀ b m at
+
+  -- before the first bit
+  pub work-start : (todo : ℕ) → r ≤ 64 → TopPost (s .due) r todo → Working b₀ m₀ at₀ todo
+  work-start todo h p =
+      record {
+        same-length = refl;
+        inside = λ l. l;
+        below = p .below;
+        k = 64 - r;
+        from = omega arith;
+        to = omega arith;
+        clear = λ i l. p .clear i (omega arith);
+        same = λ i l m. p .same i (omega arith) m;
+        state =
+            λ T l g.
+            let z : t + (64 - r) - 242 ≡ t - r - 178 = omega (arith, g .within) in
+            record {
+              given = [];
+              grown = ap (λ (c : ℕ). stateAt T c .done) z ∙ sym (append-nil (stateAt T (t - r - 178) .done));
+              machine = g .machine ∙ ap (λ (c : ℕ). machineOf (stateAt T c)) (sym z);
+              place = omega arith;
+              buffer = sym (over-nil at₀ b₀);
+            };
+      }
+
+  -- an edge of the span stands at a tick of the sweep
+  tick-of : (T : Trace) → Shows T t s recent base values → (i : ℕ) → i < 64 → bit (s .due) i ≡ true → 242 ≤ t + i
+  tick-of T sh i h e = go (leb 242 (t + i)) refl
+    where
+      go : (c : Bool) → leb 242 (t + i) ≡ c → 242 ≤ t + i
+      go true q = leb-true 242 (t + i) q
+      go false q = absurd (impossible (sym e ∙ sh .spanned .due .at i h ∙ padded-none (T .flags) (t + 78 + i) (omega (arith, leb-false 242 (t + i) q))))
+
+  -- at the ticks of clear bits no edge stands
+  none-at : (T : Trace) → Shows T t s recent base values → (j i : ℕ) → i < 64 → t + i ≡ j + 242 → bit (s .due) i ≡ false → stands (edgeAt standard T j) ≡ false
+  none-at T sh j i h z e = sym (span-stands T s t (sh .spanned) recent base values (sh .reads) i j h z) ∙ e
+
+  -- what is handed out up to tick d has room
+  grown-room : (T : Trace) (l : List Reply) → Given T l → (d : ℕ) → d ≤ t - 178 → (b : List ℕ) (m : Machine) (at : ℕ) (c : ℕ) → Done T (t - r - 178) c at₀ b₀ b m at
+      → (f : List Reply) → stateAt T d .done ≡ stateAt T c .done ++ f → at + 18 * length f ≤ length b₀
+  grown-room T l g d h b m at c o f e =
+      let E = edgeAt standard T in
+      let k = t - 178 - d in
+      let z : k + d ≡ t - 178 = omega arith in
+      let u = subst (λ (n : ℕ). length (stateAt T d .done) ≤ length (stateAt T n .done)) z (done-grows standard E (edge-timed standard T) d k) in
+      let a = ap length (g .done) ∙ length-append (stateAt T (t - r - 178) .done) l in
+      let b = ap length e ∙ length-append (stateAt T c .done) f in
+      let c′ = ap length (o .grown) ∙ length-append (stateAt T (t - r - 178) .done) (o .given) in
+      omega (arith, u, a, b, c′, o .place, g .room)
+
+  -- one bit
+  module _ (b : List ℕ) (m : Machine) (at todo : ℕ) (w : Working b m at todo) where
+    -- the lowest set bit comes after those that are worked
+    first-bit : (i : ℕ) → Lowest todo i → w .k ≤ i
+    first-bit i h = go (leb (w .k) i) refl
+      where
+        go : (c : Bool) → leb (w .k) i ≡ c → w .k ≤ i
+        go true q = leb-true (w .k) i q
+        go false q = absurd (impossible (sym (h .set) ∙ w .clear i (leb-false (w .k) i q)))
+
+    -- no edge from the tick of bit k to that of the lowest set bit
+    none-before : (T : Trace) → Shows T t s recent base values → (i : ℕ) → Lowest todo i → 242 ≤ t + i → (j : ℕ) → t + w .k - 242 ≤ j → j < t + i - 242
+        → stands (edgeAt standard T j) ≡ false
+    none-before T sh i h q j l n =
+        let e = j + 242 - t in
+        none-at T sh j e (omega (arith, h .below)) (omega arith) (sym (w .same e (omega arith) (omega (arith, h .below))) ∙ h .clear e (omega arith))
+
+    worked-bit : (i todo′ : ℕ) → Lowest todo i → WithoutLowest todo todo′ → (x : Retired) (b′ : List ℕ) → VisitPost m s i t recent base values at b x b′
+        → (T : Trace) (l : List Reply) → Given T l → Done T (t - r - 178) (t + suc i - 242) at₀ b₀ b′ (x .machine) (x .at)
+    worked-bit i todo′ h n x b′ v T l g =
+        let E = edgeAt standard T in
+        let ed = edge-timed standard T in
+        let o = w .state T l g in
+        let k≤i = first-bit i h in
+        let e = sym (w .same i k≤i (h .below)) ∙ h .set in
+        let q = tick-of T (g .shows) i (h .below) e in
+        let u = t + i - 242 in
+        let c = t + w .k - 242 in
+        let z : t + i ≡ u + 242 = omega arith in
+        let st : stands (edgeAt standard T u) ≡ true = sym (span-stands T s t (g .shows .spanned) recent base values (g .shows .reads) i u (h .below) z) ∙ e in
+        let none = none-before T (g .shows) i h q in
+        let le : c ≤ u = omega arith in
+        let d = visit-done standard E ed c u le none st in
+        let room = grown-room T l g (suc u) (omega (arith, h .below)) b m at c o (filter (ended u) (stateAt T c .live)) d in
+        let f = v .result T (g .shows) u z st c le none (o .machine) (omega (arith, room, w .same-length)) in
+        let s′ : suc u ≡ t + suc i - 242 = omega arith in
+        subst (λ (n : ℕ). Done T (t - r - 178) n at₀ b₀ b′ (x .machine) (x .at)) s′ (done-more T (t - r - 178) c (suc u) at₀ b₀ b b′ m at x (filter (ended u) (stateAt T c .live)) o room d f)
+
+    pub work-next : (i todo′ : ℕ) → Lowest todo i → WithoutLowest todo todo′ → (x : Retired) (b′ : List ℕ) → VisitPost m s i t recent base values at b x b′
+        → Working b′ (x .machine) (x .at) todo′
+    work-next i todo′ h n x b′ v =
+        record {
+          same-length = v .keeps .same ∙ w .same-length;
+          inside = λ l. omega (arith, v .keeps .inside (omega (arith, w .inside l, w .same-length)), w .same-length);
+          below = omega (arith, n .less, w .below);
+          k = suc i;
+          from = omega (arith, first-bit i h, w .from);
+          to = h .below;
+          clear = λ j l. cleared j l (same-or j i);
+          same = λ j l q. n .kept i j h (λ e. omega arith) ∙ w .same j (omega (arith, first-bit i h)) q;
+          state = worked-bit i todo′ h n x b′ v;
+        }
+      where
+        cleared : (j : ℕ) → j < suc i → (j ≡ i) ⊎ (j ≡ i → ⊥) → bit todo′ j ≡ false
+        cleared j l (inl e) = ap (bit todo′) e ∙ n .cleared i h
+        cleared j l (inr d) = n .kept i j h d ∙ h .clear j (omega arith)
+
+  -- at the end all of l is handed out
+  all-given : (T : Trace) (l : List Reply) → Given T l → (x : Retired) (b′ : List ℕ) → Done T (t - r - 178) (t - 178) at₀ b₀ b′ (x .machine) (x .at) → Gives l (stateAt T (t - 178)) at₀ b₀ x b′
+  all-given T l g x b′ o =
+      let e = append-same (stateAt T (t - r - 178) .done) (o .given) l (sym (o .grown) ∙ g .done) in
+      record {
+        machine = o .machine;
+        place = o .place ∙ ap (λ (z : List Reply). at₀ + 18 * length z) e;
+        buffer = o .buffer ∙ ap (λ (z : List Reply). over-at (records z) at₀ b₀) e;
+      }
+
+  -- after the last bit
+  module _ (b : List ℕ) (m : Machine) (at : ℕ) (w : Working b m at 0) where
+    all-clear : (i : ℕ) → w .k ≤ i → i < 64 → bit (s .due) i ≡ false
+    all-clear i l h = sym (w .same i l h) ∙ zero-bit i
+
+    none-after : (T : Trace) → Shows T t s recent base values → 179 ≤ t → (j : ℕ) → t + w .k - 242 ≤ j → j ≤ t - 179 → stands (edgeAt standard T j) ≡ false
+    none-after T sh h j l n =
+        let e = j + 242 - t in
+        none-at T sh j e (omega arith) (omega arith) (all-clear e (omega arith) (omega arith))
+
+    work-late : (x : Retired) (b′ : List ℕ) → 179 ≤ t → RetirePost m (t - 179) at b x b′ → (T : Trace) (l : List Reply) → Given T l → Gives l (stateAt T (t - 178)) at₀ b₀ x b′
+    work-late x b′ h v T l g =
+        let E = edgeAt standard T in
+        let ed = edge-timed standard T in
+        let o = w .state T l g in
+        let u = t - 179 in
+        let c = t + w .k - 242 in
+        let S = stateAt T c in
+        let none = none-after T (g .shows) h in
+        let le : c ≤ suc u = omega (arith, w .to) in
+        let z : suc u ≡ t - 178 = omega arith in
+        let f = filter (ended u) (S .live) in
+        let d = skip-done standard E ed c u le none in
+        let room = grown-room T l g (suc u) (omega arith) b m at c o f d in
+        let room′ : at + 18 * length f ≤ length b = omega (arith, room, w .same-length) in
+        let q = queue T c in
+        let gives : Gives f (stateAt T (suc u)) at b x b′ =
+        record {
+          machine = v .machine S (o .machine) q room′ ∙ ap machineOf (skip-to standard E ed c u le none);
+          place = v .place S (o .machine) q room′;
+          buffer = v .buffer S (o .machine) q room′;
+        } in
+        all-given T l g x b′ (subst (λ (n : ℕ). Done T (t - r - 178) n at₀ b₀ b′ (x .machine) (x .at)) z (done-more T (t - r - 178) c (suc u) at₀ b₀ b b′ m at x f o room d gives))
+
+    work-early : t < 179 → (T : Trace) (l : List Reply) → Given T l → Gives l (stateAt T (t - 178)) at₀ b₀ (record { machine = m; at = at }) b
+    work-early h T l g =
+        let z : t + w .k - 242 ≡ t - 178 = omega (arith, w .to) in
+        all-given T l g (record { machine = m; at = at }) b (subst (λ (n : ℕ). Done T (t - r - 178) n at₀ b₀ b m at) z (w .state T l g))
+
+    pub work-end-late : (x : Retired) (b′ : List ℕ) → 179 ≤ t → RetirePost m (t - 179) at b x b′ → WorkPost m₀ s r t recent base values at₀ b₀ x b′
+    work-end-late x b′ h v =
+        record {
+          keeps = record { same = v .same ∙ w .same-length; inside = λ l. omega (arith, v .inside (omega (arith, w .inside l, w .same-length)), w .same-length) };
+          result = λ T sh le is l e room. work-late x b′ h v T l (record { shows = sh; within = le; machine = is; done = e; room = room });
+        }
+
+    pub work-end-early : t < 179 → WorkPost m₀ s r t recent base values at₀ b₀ (record { machine = m; at = at }) b
+    work-end-early h =
+        record {
+          keeps = record { same = w .same-length; inside = w .inside };
+          result = λ T sh le is l e room. work-early h T l (record { shows = sh; within = le; machine = is; done = e; room = room });
+        }

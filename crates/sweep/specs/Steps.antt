@@ -1,0 +1,216 @@
+-- What the inner functions of a sweep answer, for the trace that their words and values belong to.
+use Prim.Native.Nat.{ℕ, zero, suc, _+_, _-_, _*_, _^_, _≤_, _<_}
+use mathlib.Core.Bool.{Bool, true, false, cond}
+use mathlib.Core.List.{List, [], _∷_, _++_}
+use mathlib.Core.Path.{_≡_}
+use lib.Dec.{leb, ltb}
+use lib.ListN.{length, getD}
+use Rattle.rules.specs.declared.Reply.{Reply}
+use Rattle.rules.specs.declared.Machine.{Machine}
+use Rattle.rules.specs.Settings.{standard}
+use Rattle.rules.specs.Lists.{All, filter}
+use Rattle.rules.specs.Samples.{Trace, _⧺_, A, P, N, M, sweepLimit}
+use Rattle.rules.specs.Edges.{stands, edgeAt}
+use Rattle.rules.specs.Replies.{ended}
+use Rattle.rules.specs.Machine.{State, after}
+use Rattle.rules.specs.Records.{records}
+use Rattle.rules.specs.Calls.{fresh, silence, takeRoom, closeRoom}
+use Rattle.rules.specs.declared.Counts.{Counts}
+use Rattle.rules.specs.declared.Totals.{Totals}
+use Rattle.machine.specs.Places.{machineOf}
+use Rattle.records.specs.declared.Retired.{Retired}
+use Rattle.records.specs.Buffers.{over-at}
+use Rattle.edges.specs.declared.packing.Planes.{Planes}
+use Rattle.edges.specs.Words.{bit}
+use Rattle.rules.specs.declared.Pulse.{Pulse}
+use Rattle.rules.specs.declared.Bracket.{Bracket}
+use Rattle.rules.specs.declared.Bracket.the-variants.{Without, With}
+use Rattle.edges.specs.Words.{Holds}
+use Rattle.edges.specs.Planes.{hasEdge}
+use Rattle.sweep.specs.declared.front.Front.{Front}
+use Rattle.sweep.specs.declared.span.Span.{Span}
+use Rattle.sweep.specs.declared.blocks.Run.{Run}
+use Rattle.sweep.specs.State.{padded, frontOf, recentOf}
+
+-- the low bits of the planes x are those of the flags G
+pub record Low (G : List ℕ) (x : Planes) : Type 0 where
+  pub a : (m : ℕ) → m < length G → bit (x .a) m ≡ A G m
+  pub p : (m : ℕ) → m < length G → bit (x .p) m ≡ P G m
+  pub n : (m : ℕ) → m < length G → bit (x .n) m ≡ N G m
+  pub m : (m : ℕ) → m < length G → bit (x .m) m ≡ M G m
+
+-- the words after r ticks more
+pub record AdvancePost (f : Front) (x : Planes) (r : ℕ) (f′ : Front) : Type 0 where
+  pub result : (F G : List ℕ) → f ≡ frontOf F → length G ≡ r → Low G x → f′ ≡ frontOf (F ++ G)
+
+-- ---- values
+
+-- the value of tick t, where `base` ticks were taken before the piece: from the piece, or from the values before it
+unfoldable pub valueOf : List ℕ → ℕ → List ℕ → ℕ → ℕ
+valueOf recent base values t =
+    cond (leb base t) (getD values (t - base) 0) (cond (leb base (t + 256)) (getD recent (t + 256 - base) 0) 0)
+
+-- n places on, as far as there are values
+pub record Older (recent : List ℕ) (n : ℕ) (r : List ℕ) : Type 0 where
+  pub size : length r ≡ length recent
+  pub at : (i : ℕ) → i + n < 256 → getD r i 0 ≡ getD recent (i + n) 0
+
+-- the last values, at the end
+pub record Newer (older values r : List ℕ) : Type 0 where
+  pub size : length r ≡ length older
+  pub old : (i : ℕ) → i + length values < 256 → getD r i 0 ≡ getD older i 0
+  pub new : (i : ℕ) → i < 256 → 256 ≤ i + length values → getD r i 0 ≡ getD values (i + length values - 256) 0
+
+-- the values of the last 256 ticks once the piece is taken
+pub record KeepPost (recent : List ℕ) (values : List ℕ) (recent′ : List ℕ) : Type 0 where
+  pub result : (old : List ℕ) → recent ≡ recentOf old → recent′ ≡ recentOf (old ++ values)
+
+-- ---- the 64 ticks u from t-242 on that the machine can work once t ticks are taken, as words: edges at u; edges at u+168, u+167, u+169; M of each
+
+pub record Spanned (w : List ℕ) (t : ℕ) (s : Span) : Type 0 where
+  pub due : Holds (hasEdge w) (t + 78) (s .due)
+  pub at168 : Holds (λ u. hasEdge w (u + 168)) (t + 78) (s .at168)
+  pub at167 : Holds (λ u. hasEdge w (u + 167)) (t + 78) (s .at167)
+  pub at169 : Holds (λ u. hasEdge w (u + 169)) (t + 78) (s .at169)
+  pub main : Holds (λ u. M w (u + 1)) (t + 78) (s .main)
+  pub main168 : Holds (λ u. M w (u + 169)) (t + 78) (s .main168)
+  pub main167 : Holds (λ u. M w (u + 168)) (t + 78) (s .main167)
+  pub main169 : Holds (λ u. M w (u + 170)) (t + 78) (s .main169)
+
+pub record SpanPost (f : Front) (s : Span) : Type 0 where
+  pub result : (F : List ℕ) → f ≡ frontOf F → Spanned (padded F) (length F) s
+
+-- the pulse at tick t, whose M is bit i of x
+abbrev pub pulseIn : ℕ → ℕ → ℕ → ℕ → Pulse
+pulseIn x i t v = record { tick = record { 0 = t }; main = bit x i; value = v }
+
+-- the bracket at tick u, which is tick i of the span: its F2, if it has one
+unfoldable pub bracketIn : Span → ℕ → ℕ → List ℕ → ℕ → List ℕ → Bracket
+unfolding bit valueOf
+bracketIn s i u recent base values =
+    cond (bit (s .at168) i) (With (pulseIn (s .main168) i (u + 168) (valueOf recent base values (u + 169))))
+    (cond (bit (s .at167) i) (With (pulseIn (s .main167) i (u + 167) (valueOf recent base values (u + 168))))
+    (cond (bit (s .at169) i) (With (pulseIn (s .main169) i (u + 169) (valueOf recent base values (u + 170))))
+    Without))
+
+-- ---- the machine at work
+
+-- the state of the rules after the ticks below c
+abbrev pub stateAt : Trace → ℕ → State
+stateAt T c = after _+_ standard (edgeAt standard T) c
+
+-- a trace on which sums of 16 bits are those of the rules: values are bytes, and edges stand below the limit of a sweep
+pub record Bounded (T : Trace) : Type 0 where
+  pub bytes : All (λ v. v ≤ 255) (T .values)
+  pub edges : (u : ℕ) → stands (edgeAt standard T u) ≡ true → u < sweepLimit
+
+-- the values read are those of the trace T of t ticks, at the ticks that the machine asks for
+pub record Reads (T : Trace) (t : ℕ) (recent : List ℕ) (base : ℕ) (values : List ℕ) : Type 0 where
+  pub at : (k : ℕ) → t ≤ k + 242 → k < t → valueOf recent base values k ≡ getD (T .values) k 0
+
+-- what the span, the values and the buffer's place have to do with the trace T of t ticks
+pub record Shows (T : Trace) (t : ℕ) (s : Span) (recent : List ℕ) (base : ℕ) (values : List ℕ) : Type 0 where
+  pub bounded : Bounded T
+  pub ticks : length (T .flags) ≡ t
+  pub spanned : Spanned (padded (T .flags)) t s
+  pub reads : Reads T t recent base values
+
+-- the records of l are handed out from place `at` of the buffer b on, and the machine is left as that of the state
+pub record Gives (l : List Reply) (z : State) (at : ℕ) (b : List ℕ) (x : Retired) (b′ : List ℕ) : Type 0 where
+  pub machine : x .machine ≡ machineOf z
+  pub place : x .at ≡ at + 18 * length l
+  pub buffer : b′ ≡ over-at (records l) at b
+
+-- for every machine and buffer
+pub record Keeps (at : ℕ) (b : List ℕ) (x : Retired) (b′ : List ℕ) : Type 0 where
+  pub same : length b′ ≡ length b
+  pub inside : at ≤ length b → x .at ≤ length b
+
+-- a visit at tick i of the span, where an edge stands; no edge stands from tick c, up to which the machine has worked, to there
+pub record VisitPost (m : Machine) (s : Span) (i t : ℕ) (recent : List ℕ) (base : ℕ) (values : List ℕ) (at : ℕ) (b : List ℕ) (x : Retired) (b′ : List ℕ) : Type 0 where
+  pub keeps : Keeps at b x b′
+  pub result : (T : Trace) → Shows T t s recent base values → (u : ℕ) → t + i ≡ u + 242 → stands (edgeAt standard T u) ≡ true
+      → (c : ℕ) → c ≤ u → ((k : ℕ) → c ≤ k → k < u → stands (edgeAt standard T k) ≡ false) → m ≡ machineOf (stateAt T c)
+      → at + 18 * length (filter (ended u) (stateAt T c .live)) ≤ length b
+      → Gives (filter (ended u) (stateAt T c .live)) (stateAt T (suc u)) at b x b′
+
+-- the machine works the r ticks that became known with the last r of t ticks
+pub record WorkPost (m : Machine) (s : Span) (r t : ℕ) (recent : List ℕ) (base : ℕ) (values : List ℕ) (at : ℕ) (b : List ℕ) (x : Retired) (b′ : List ℕ) : Type 0 where
+  pub keeps : Keeps at b x b′
+  pub result : (T : Trace) → Shows T t s recent base values → r ≤ t → m ≡ machineOf (stateAt T (t - r - 178))
+      → (l : List Reply) → stateAt T (t - 178) .done ≡ stateAt T (t - r - 178) .done ++ l → at + 18 * length l ≤ length b
+      → Gives l (stateAt T (t - 178)) at b x b′
+
+-- the bits of x from 64-r on
+pub record TopPost (x r y : ℕ) : Type 0 where
+  pub below : y < 2 ^ 64
+  pub clear : (i : ℕ) → i + r < 64 → bit y i ≡ false
+  pub same : (i : ℕ) → 64 ≤ i + r → i < 64 → bit y i ≡ bit x i
+
+-- ---- a block of up to 64 ticks
+
+-- T with P of its piece behind it: words, machine, and what P hands out in the buffer b, which was b₀
+pub record Fed (T P : Trace) (b₀ : List ℕ) (y : Run) (b : List ℕ) : Type 0 where
+  pub front : y .front ≡ frontOf (T .flags ++ P .flags)
+  pub machine : y .machine ≡ machineOf (stateAt (T ⧺ P) (length (T .flags ++ P .flags) - 178))
+  pub place : y .at ≡ 18 * length (fresh standard T P)
+  pub buffer : b ≡ over-at (records (fresh standard T P)) 0 b₀
+
+-- the block Q comes next, which makes t ticks
+pub record Next (T P Q : Trace) (t : ℕ) (recent : List ℕ) (base : ℕ) (values : List ℕ) (b₀ b : List ℕ) : Type 0 where
+  pub alike : length (T .flags) ≡ length (T .values)
+  pub alike-piece : length (P .flags) ≡ length (P .values)
+  pub ticks : length (T .flags) + length (P .flags) + length (Q .flags) ≡ t
+  pub bounded : Bounded (T ⧺ (P ⧺ Q))
+  pub reads : Reads (T ⧺ (P ⧺ Q)) t recent base values
+  pub room : 18 * length (fresh standard T (P ⧺ Q)) ≤ length b₀
+  pub same : length b ≡ length b₀
+
+pub record BlockPost (o : Run) (x : Planes) (r t : ℕ) (recent : List ℕ) (base : ℕ) (values : List ℕ) (b : List ℕ) (y : Run) (b′ : List ℕ) : Type 0 where
+  pub same : length b′ ≡ length b
+  pub inside : o .at ≤ length b → y .at ≤ length b
+  pub result : (T P Q : Trace) (b₀ : List ℕ) → Fed T P b₀ o b → length (Q .flags) ≡ r → Low (Q .flags) x → Next T P Q t recent base values b₀ b → Fed T (P ⧺ Q) b₀ y b′
+
+-- ---- a piece
+
+-- o is where a piece of flags and values begins, behind the trace T; the buffer b₀ has the room that document 01 asks for
+pub record Begins (T : Trace) (o : Run) (recent : List ℕ) (base : ℕ) (flags values b₀ : List ℕ) : Type 0 where
+  pub front : o .front ≡ frontOf (T .flags)
+  pub machine : o .machine ≡ machineOf (stateAt T (length (T .flags) - 178))
+  pub place : o .at ≡ 0
+  pub kept : recent ≡ recentOf (T .values)
+  pub ticks : length (T .flags) ≡ base
+  pub alike : length (T .flags) ≡ length (T .values)
+  pub alike-piece : length flags ≡ length values
+  pub bytes : All (λ v. v ≤ 255) (T .values)
+  pub bytes-piece : All (λ v. v ≤ 255) values
+  pub limit : base + length flags ≤ sweepLimit
+  pub room : takeRoom (length flags) ≤ length b₀
+
+pub record FeedPost (o : Run) (recent : List ℕ) (base : ℕ) (flags values b : List ℕ) (y : Run) (b′ : List ℕ) : Type 0 where
+  pub same : length b′ ≡ length b
+  pub result : (T : Trace) → Begins T o recent base flags values b → Fed T (record { flags = flags; values = values }) b y b′
+
+-- ---- the ticks past the end
+
+-- o is where the trace T ends; the buffer b₀ has the room that document 01 asks of a close
+pub record Ends (T : Trace) (o : Run) (recent : List ℕ) (base : ℕ) (b₀ : List ℕ) : Type 0 where
+  pub front : o .front ≡ frontOf (T .flags)
+  pub machine : o .machine ≡ machineOf (stateAt T (length (T .flags) - 178))
+  pub place : o .at ≡ 0
+  pub kept : recent ≡ recentOf (T .values)
+  pub ticks : length (T .flags) ≡ base
+  pub alike : length (T .flags) ≡ length (T .values)
+  pub bytes : All (λ v. v ≤ 255) (T .values)
+  pub limit : base ≤ sweepLimit
+  pub room : closeRoom ≤ length b₀
+
+-- 448 zeros complete every reply
+pub record DrainPost (o : Run) (recent : List ℕ) (base : ℕ) (b : List ℕ) (y : Run) (b′ : List ℕ) : Type 0 where
+  pub same : length b′ ≡ length b
+  pub result : (T : Trace) → Ends T o recent base b → Fed T (silence 448) b y b′
+
+-- the totals, from the counts of the machine
+abbrev pub totalsFrom : Counts → Totals
+totalsFrom c =
+    record { found = c .found; replies = c .opened - c .phantoms; sidelobe = c .sidelobe; garbled = c .garbled; lost = c .lost; phantoms = c .phantoms }
