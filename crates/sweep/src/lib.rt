@@ -150,7 +150,6 @@ pub fn take(p: Processor, flags: &[u8], values: &[u8], out: &mut [u8]) -> Taken
     if has_bad(flags) {
         return no_take(p, 8);
     }
-    let azimuth = p.azimuth;
     let recent = p.recent;
     let front = p.front;
     let machine = p.machine;
@@ -166,8 +165,8 @@ pub fn take(p: Processor, flags: &[u8], values: &[u8], out: &mut [u8]) -> Taken
     Taken {
         answer: Answer::Accepted(y.at / 18),
         processor: Processor {
-            mode,
-            azimuth,
+            mode: p.mode,
+            azimuth: p.azimuth,
             taken: base + n as u32,
             front: front2,
             recent: kept,

@@ -85,12 +85,12 @@ keep-requires : tie.Need-keep-requires
 keep-requires c κs = search needs
 
 -- src/lib.rt:171:27
-cast-t26 : tie.Need-cast-t26
-cast-t26 c = omega (arith, c .before .before .before .before .before .before .before .before .before .before .before .before .before .before .before .before .before .if3 .left)
+cast-t25 : tie.Need-cast-t25
+cast-t25 c = omega (arith, c .before .before .before .before .before .before .before .before .before .before .before .before .before .before .before .before .before .if3 .left)
 
 -- src/lib.rt:171:20
-add-t27 : tie.Need-add-t27
-add-t27 c = omega (arith, c .before .before .before .before .before .before .before .before .before .before .before .before .before .before .before .before .if4 .left)
+add-t26 : tie.Need-add-t26
+add-t26 c = omega (arith, c .before .before .before .before .before .before .before .before .before .before .before .before .before .before .before .before .if4 .left)
 
 -- src/lib.rt:129:1
 same-length : tie.Need-same-length
@@ -122,7 +122,7 @@ take-spec =
     returns-6
     feed-requires
     keep-requires
-    cast-t26
-    add-t27
+    cast-t25
+    add-t26
     same-length
     returns-7)
