@@ -43,6 +43,10 @@ pub record Low (G : List ℕ) (x : Planes) : Type 0 where
 pub record AdvancePost (f : Front) (x : Planes) (r : ℕ) (f′ : Front) : Type 0 where
   pub result : (F G : List ℕ) → f ≡ frontOf F → length G ≡ r → Low G x → f′ ≡ frontOf (F ++ G)
 
+-- a block has 64 ticks, or all that are left
+abbrev pub blockLength : ℕ → ℕ
+blockLength n = cond (ltb n 64) n 64
+
 -- ---- values
 
 -- the value of tick t, where `base` ticks were taken before the piece: from the piece, or from the values before it

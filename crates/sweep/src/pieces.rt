@@ -3,7 +3,7 @@ ghost use Prim.Native.Nat.{_+_, _≤_, _<_};
 ghost use mathlib.Core.Path.{_≡_};
 ghost use lib.ListN.{length};
 ghost use Rattle.edges.specs.Packing.{PackedPart};
-ghost use Rattle.sweep.specs.Steps.{FeedPost, DrainPost};
+ghost use Rattle.sweep.specs.Steps.{blockLength, FeedPost, DrainPost};
 use super::blocks::Run;
 use super::blocks::block;
 use edges::packing::Planes;
@@ -23,6 +23,7 @@ pub fn packed(flags: &[u8], o: usize, r: usize) -> Planes
 
 // How many of the n ticks left the next block takes.
 fn block_length(n: usize) -> usize
+    ensures is { λ r. ⌜ r ≡ blockLength n ⌝ }
     ensures most { λ r. ⌜ r ≤ 64 ⌝ }
     ensures within { λ r. ⌜ r ≤ n ⌝ }
     ensures some { λ r. ⌜ (0 < n → 0 < r) ⌝ }

@@ -31,7 +31,7 @@ block-length-requires c κs = tt
 
 -- src/pieces.rt:46:13
 packed-requires : tie.Need-packed-requires Inv-loop μ-loop
-packed-requires c κs = omega (arith, c .block-length .ensures)
+packed-requires c κs = omega (arith, c .block-length .ensures .1)
 
 -- src/pieces.rt:47:20
 add-next : tie.Need-add-next Inv-loop μ-loop
@@ -51,15 +51,15 @@ cast-block c = omega arith
 
 -- src/pieces.rt:49:13
 block-requires : tie.Need-block-requires Inv-loop μ-loop
-block-requires c κs = omega (arith, c .before .before .block-length .ensures .0, c .before .before .block-length .ensures .1 .0, c .before .before .block-length .ensures .1 .1 (omega arith), c .before .before .before .before .loop .inv .most)
+block-requires c κs = omega (arith, c .before .before .block-length .ensures .1 .0, c .before .before .block-length .ensures .1 .1 .0, c .before .before .block-length .ensures .1 .1 .1 (omega arith), c .before .before .before .before .loop .inv .most)
 
 -- src/pieces.rt:44:5
 loop-less : tie.Need-loop-less Inv-loop μ-loop
-loop-less c = omega (arith, c .before .before .before .before .before .block-length .ensures .1 .0, c .before .before .before .before .before .block-length .ensures .1 .1 (omega arith), c .before .before .before .before .before .before .before .loop .inv .most)
+loop-less c = omega (arith, c .before .before .before .before .before .block-length .ensures .1 .1 .0, c .before .before .before .before .before .block-length .ensures .1 .1 .1 (omega arith), c .before .before .before .before .before .before .before .loop .inv .most)
 
 -- src/pieces.rt:44:5
 loop-again : tie.Need-loop-again Inv-loop μ-loop
-loop-again c = feed-next (c .before .before .before .before .before .before .before .before .before .before .before .args .o) (c .before .before .before .before .before .before .before .before .before .before .before .args .recent .now) (c .before .before .before .before .before .before .before .before .before .before .before .args .base) (c .before .before .before .before .before .before .before .before .before .before .before .args .flags .now) (c .before .before .before .before .before .before .before .before .before .before .before .args .values .now) (c .before .before .before .before .before .before .before .before .before .before .before .args .out .now) (c .before .before .before .before .before .before .before .loop .out) (c .before .before .before .before .before .before .before .loop .run) (c .before .before .before .before .before .before .before .loop .i) (c .before .before .before .before .before .block-length .result) _ (c .before .before .before .before .packed .result) (c .before .before .block .result) _ (omega (arith, c .before .before .before .before .before .block-length .ensures)) refl (c .before .before .before .before .packed .ensures) (c .before .before .block .ensures) (c .before .before .before .before .before .before .before .loop .inv)
+loop-again c = feed-next (c .before .before .before .before .before .before .before .before .before .before .before .args .o) (c .before .before .before .before .before .before .before .before .before .before .before .args .recent .now) (c .before .before .before .before .before .before .before .before .before .before .before .args .base) (c .before .before .before .before .before .before .before .before .before .before .before .args .flags .now) (c .before .before .before .before .before .before .before .before .before .before .before .args .values .now) (c .before .before .before .before .before .before .before .before .before .before .before .args .out .now) (c .before .before .before .before .before .before .before .loop .out) (c .before .before .before .before .before .before .before .loop .run) (c .before .before .before .before .before .before .before .loop .i) (c .before .before .before .before .before .block-length .result) _ (c .before .before .before .before .packed .result) (c .before .before .block .result) _ (omega (arith, c .before .before .before .before .before .block-length .ensures .1)) refl (c .before .before .before .before .packed .ensures) (c .before .before .block .ensures) (c .before .before .before .before .before .before .before .loop .inv)
 
 -- src/pieces.rt:37:1
 same-length : tie.Need-same-length Inv-loop μ-loop

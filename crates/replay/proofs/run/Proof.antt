@@ -1,0 +1,66 @@
+-- `run` is safe and ends: every piece has a tick, and the last one ends at `end`, within both slices.
+use Prim.Native.Nat.{_≤_, _-_}
+use borrow.Author.Needs.{needs}
+use Rattle.replay.proofs.run.Statement.{statement}
+use Rattle.replay.proofs.run.Tie as tie
+
+abbrev Inv-loop : tie.InvT-loop
+Inv-loop flags values n cut disturbed p₀ a₀ end p a = (a ≤ end) × (end ≤ 450)
+
+abbrev μ-loop : tie.MeasureT-loop
+μ-loop flags values n cut disturbed p₀ a₀ end p a = end - a
+
+open-requires : tie.Need-open-requires Inv-loop μ-loop
+open-requires c κs = search needs
+
+add-end : tie.Need-add-end Inv-loop μ-loop
+add-end c = search needs
+
+loop-holds : tie.Need-loop-holds Inv-loop μ-loop
+loop-holds c = search needs
+
+sub-piece : tie.Need-sub-piece Inv-loop μ-loop
+sub-piece c = search needs
+
+piece-requires : tie.Need-piece-requires Inv-loop μ-loop
+piece-requires c κs = search needs
+
+add-b : tie.Need-add-b Inv-loop μ-loop
+add-b c = search needs
+
+disturb-requires : tie.Need-disturb-requires Inv-loop μ-loop
+disturb-requires c κs = search needs
+
+take-part-requires : tie.Need-take-part-requires Inv-loop μ-loop
+take-part-requires c κs = search needs
+
+loop-less : tie.Need-loop-less Inv-loop μ-loop
+loop-less c = search needs
+
+loop-again : tie.Need-loop-again Inv-loop μ-loop
+loop-again c = search needs
+
+close-requires : tie.Need-close-requires Inv-loop μ-loop
+close-requires c κs = search needs
+
+returns : tie.Need-returns Inv-loop μ-loop
+returns c = search needs
+
+pub run-spec : {M : Type 1} → statement M
+run-spec =
+    tie.close
+    (tie.spec
+    Inv-loop
+    μ-loop
+    open-requires
+    add-end
+    loop-holds
+    sub-piece
+    piece-requires
+    add-b
+    disturb-requires
+    take-part-requires
+    loop-less
+    loop-again
+    close-requires
+    returns)
