@@ -1,0 +1,108 @@
+-- Samples of a line land at the start of two buffers, one pair after the other.
+use Prim.Native.Nat.{ℕ, zero, suc, _+_, _-_, _*_, _≤_, _<_}
+use native.Mathlib.Omega.{arith}
+use mathlib.Core.Path.{_≡_, refl, sym, ap, _∙_}
+use mathlib.Core.Logic.{_⊎_, inl, inr}
+use mathlib.Core.Bool.{Bool, true, false}
+use mathlib.Core.List.{List, [], _∷_, _++_}
+use lib.Dec.{ltb}
+use lib.ListN.{length, getD, drop, set, length-set, length-append, length-drop, List·getD-append}
+use lib.Seq.{getD-set-same, getD-set-other, getD-drop, getD-append-add, ext-getD}
+use borrow.Author.Tests.{ltb-true, ltb-false}
+use Rattle.rules.proofs.Truth.{same-or}
+use Rattle.frames.specs.Frames.{flagsIn, valuesIn}
+use Rattle.frames.specs.Post.{behind, over, AllDigits, FillPost}
+use Rattle.frames.proofs.Pairs.{byte, behind-length, behind-at, flags-at, values-at, flags-length, values-length}
+
+-- ---- a buffer whose first j bytes are those of F
+
+pub record Put (F b₀ b : List ℕ) (j : ℕ) : Type 0 where
+  pub size : length b ≡ length b₀
+  pub new : (k : ℕ) → k < j → getD b k 0 ≡ getD F k 0
+  pub old : (k : ℕ) → j ≤ k → getD b k 0 ≡ getD b₀ k 0
+
+put-start : (F b : List ℕ) → Put F b b 0
+put-start F b = record { size = refl; new = λ k h. absurd (omega arith); old = λ k h. refl }
+
+put-next : (F b₀ b : List ℕ) (j x : ℕ) → j < length b₀ → x ≡ getD F j 0 → Put F b₀ b j → Put F b₀ (set b j x) (j + 1)
+put-next F b₀ b j x l e h =
+    record {
+      size = length-set b j x ∙ h .size;
+      new = λ k q. go k q (same-or k j);
+      old = λ k q. getD-set-other b j k x 0 (λ z. omega arith) ∙ h .old k (omega arith);
+    }
+  where
+    go : (k : ℕ) → k < j + 1 → (k ≡ j) ⊎ (k ≡ j → ⊥) → getD (set b j x) k 0 ≡ getD F k 0
+    go k q (inl z) =
+        ap (λ (i : ℕ). getD (set b j x) i 0) z ∙ getD-set-same b j x 0 (omega (arith, h .size)) ∙ e ∙ ap (λ (i : ℕ). getD F i 0) (sym z)
+    go k q (inr d) = getD-set-other b j k x 0 d ∙ h .new k (omega arith)
+
+put-end : (F b₀ b : List ℕ) (j : ℕ) → length F ≡ j → j ≤ length b₀ → Put F b₀ b j → b ≡ over F b₀
+put-end F b₀ b j e l h =
+    ext-getD 0 b (over F b₀) (omega (arith, h .size, length-append F (drop (length F) b₀), length-drop (length F) b₀))
+    (λ k q. go k (ltb k (length F)) refl)
+  where
+    go : (k : ℕ) (t : Bool) → ltb k (length F) ≡ t → getD b k 0 ≡ getD (over F b₀) k 0
+    go k true z =
+        let q = ltb-true k (length F) z in
+        h .new k (omega (arith, q)) ∙ sym (List·getD-append F (drop (length F) b₀) 0 k q)
+    go k false z =
+        let q = ltb-false k (length F) z in
+        h .old k (omega (arith, q))
+        ∙ ap (λ (i : ℕ). getD b₀ i 0) {x = k} {y = length F + (k - length F)} (omega (arith, q))
+        ∙ sym (getD-drop (length F) b₀ (k - length F) 0)
+        ∙ sym (getD-append-add F (drop (length F) b₀) (k - length F) 0)
+        ∙ ap (λ (i : ℕ). getD (over F b₀) i 0) {x = length F + (k - length F)} {y = k} (omega (arith, q))
+
+-- ---- the two buffers of a line with n samples
+
+pub record Filling (line : List ℕ) (n : ℕ) (flags₀ values₀ flags values : List ℕ) (j : ℕ) : Type 0 where
+  pub most : j ≤ n
+  pub flagBytes : Put (flagsIn (behind line (4 * n + 2))) flags₀ flags j
+  pub valueBytes : Put (valuesIn (behind line (4 * n + 2))) values₀ values j
+
+pub filling-start : (line : List ℕ) (n : ℕ) (flags values : List ℕ) → Filling line n flags values flags values 0
+filling-start line n flags values =
+    record {
+      most = omega arith;
+      flagBytes = put-start (flagsIn (behind line (4 * n + 2))) flags;
+      valueBytes = put-start (valuesIn (behind line (4 * n + 2))) values;
+    }
+
+module _ (line : List ℕ) (n : ℕ) (room : 4 * n + 2 ≤ length line) where
+  abbrev behindIt : List ℕ
+  behindIt = behind line (4 * n + 2)
+
+  size : length behindIt ≡ 2 * n
+  size = behind-length line (4 * n + 2) (2 * n) room (omega arith)
+
+  flag-is : (j : ℕ) → j < n → byte line (4 * j + 2) ≡ getD (flagsIn behindIt) j 0
+  flag-is j h =
+      sym (
+      flags-at behindIt j (omega (arith, size))
+      ∙ behind-at line (4 * n + 2) (2 * j) room (omega arith)
+      ∙ ap (λ (i : ℕ). byte line i) {x = 2 * (2 * j) + 2} {y = 4 * j + 2} (omega arith))
+
+  value-is : (j : ℕ) → j < n → byte line (4 * j + 4) ≡ getD (valuesIn behindIt) j 0
+  value-is j h =
+      sym (
+      values-at behindIt j (omega (arith, size))
+      ∙ behind-at line (4 * n + 2) (2 * j + 1) room (omega arith)
+      ∙ ap (λ (i : ℕ). byte line i) {x = 2 * (2 * j + 1) + 2} {y = 4 * j + 4} (omega arith))
+
+  module _ (flags₀ values₀ : List ℕ) (f : n ≤ length flags₀) (v : n ≤ length values₀) where
+    pub filling-next : (flags values : List ℕ) (j x y : ℕ) → j < n → x ≡ byte line (4 * j + 2) → y ≡ byte line (4 * j + 4)
+        → Filling line n flags₀ values₀ flags values j → Filling line n flags₀ values₀ (set flags j x) (set values j y) (j + 1)
+    filling-next flags values j x y l a b h =
+        record {
+          most = omega arith;
+          flagBytes = put-next (flagsIn behindIt) flags₀ flags j x (omega arith) (a ∙ flag-is j l) (h .flagBytes);
+          valueBytes = put-next (valuesIn behindIt) values₀ values j y (omega arith) (b ∙ value-is j l) (h .valueBytes);
+        }
+
+    pub filling-end : (flags values : List ℕ) (j : ℕ) → n ≤ j → Filling line n flags₀ values₀ flags values j → FillPost line n flags₀ values₀ flags values
+    filling-end flags values j l h =
+        record {
+          flagBytes = put-end (flagsIn behindIt) flags₀ flags j (omega (arith, flags-length behindIt n size, h .most)) (omega (arith, h .most)) (h .flagBytes);
+          valueBytes = put-end (valuesIn behindIt) values₀ values j (omega (arith, values-length behindIt n size, h .most)) (omega (arith, h .most)) (h .valueBytes);
+        }
