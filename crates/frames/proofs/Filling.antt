@@ -11,7 +11,8 @@ use lib.Seq.{getD-set-same, getD-set-other, getD-drop, getD-append-add, ext-getD
 use borrow.Author.Tests.{ltb-true, ltb-false}
 use Rattle.rules.proofs.Truth.{same-or}
 use Rattle.frames.specs.Frames.{flagsIn, valuesIn}
-use Rattle.frames.specs.Post.{behind, over, AllDigits, FillPost}
+use Rattle.rules.specs.Buffers.{over}
+use Rattle.frames.specs.Post.{behind, AllDigits, FillPost}
 use Rattle.frames.proofs.Pairs.{byte, behind-length, behind-at, flags-at, values-at, flags-length, values-length}
 
 -- ---- a buffer whose first j bytes are those of F
@@ -38,6 +39,7 @@ put-next F b₀ b j x l e h =
     go k q (inr d) = getD-set-other b j k x 0 d ∙ h .new k (omega arith)
 
 put-end : (F b₀ b : List ℕ) (j : ℕ) → length F ≡ j → j ≤ length b₀ → Put F b₀ b j → b ≡ over F b₀
+unfolding over
 put-end F b₀ b j e l h =
     ext-getD 0 b (over F b₀) (omega (arith, h .size, length-append F (drop (length F) b₀), length-drop (length F) b₀))
     (λ k q. go k (ltb k (length F)) refl)

@@ -5,3 +5,4 @@ pub mod Filling
 pub mod WellFormed
 pub mod Reading
 pub mod RoundTrip
+pub mod Printing

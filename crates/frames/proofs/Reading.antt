@@ -10,9 +10,11 @@ use borrow.Author.Tests.{leb-true, eqb-true, lt-leb, le-leb, eq-eqb, ne-eqb}
 use Rattle.rules.specs.Samples.{Trace}
 use Rattle.rules.proofs.Truth.{and-left, and-right}
 use Rattle.frames.specs.declared.Line.{Line}
-use Rattle.frames.specs.declared.Line.the-variants.{Open, Samples, Close, Refused}
+use Rattle.frames.specs.declared.Line.the-variants.{Frame as Framed, Refused}
+use Rattle.frames.specs.declared.Frame.the-variants.{Open, Samples, Close}
 use Rattle.frames.specs.Frames.{Reading, opening, samples, closing, refused, areDigits, digits, ended, wellFormed, bytes, flagsIn, valuesIn, openingOf, samplesOf, closingOf, frame, reading}
-use Rattle.frames.specs.Post.{lineOf, over, flagsAfter, valuesAfter, behind, AllDigits, FillPost, ReadPost}
+use Rattle.rules.specs.Buffers.{over}
+use Rattle.frames.specs.Post.{lineOf, flagsAfter, valuesAfter, behind, AllDigits, FillPost, ReadPost}
 use Rattle.frames.proofs.Pairs.{byte, kind-first, behind-length, behind-at, flags-length}
 
 -- what a well formed line is
@@ -86,7 +88,7 @@ module _ (l f v : List ℕ) (w : wellFormed l ≡ true) (h : Formed l) where
   read-open-10 k n = post l f v (refused 10) (first k ∙ rw (ne-eqb (length (behind l m)) 3 (λ e. n (omega (arith, e, size, even)))))
 
   pub read-open : byte l 0 ≡ 1 → m ≡ 8 → (mode high low : ℕ) → mode ≡ byte l 2 → high ≡ byte l 4 → low ≡ byte l 6
-      → ReadPost l f v (Open mode (256 * high + low)) f v
+      → ReadPost l f v (Framed (Open mode (256 * high + low))) f v
   read-open k n mode high low a b c =
       post l f v (opening mode (256 * high + low))
       (first k
@@ -113,10 +115,10 @@ module _ (l f v : List ℕ) (w : wellFormed l ≡ true) (h : Formed l) where
   read-none k n o =
       post l f v (refused 10) (second k ∙ rw (lt-leb 2 (length (behind l m)) (omega (arith, size, even, n, o))))
 
-  pub read-samples : byte l 0 ≡ 2 → m % 4 ≡ 2 → 6 ≤ m → (n : ℕ) → n ≡ m / 4 → (f′ v′ : List ℕ) → FillPost l n f v f′ v′ → ReadPost l f v (Samples n) f′ v′
+  pub read-samples : byte l 0 ≡ 2 → m % 4 ≡ 2 → 6 ≤ m → (n : ℕ) → n ≡ m / 4 → (f′ v′ : List ℕ) → FillPost l n f v f′ v′ → ReadPost l f v (Framed (Samples n)) f′ v′
   read-samples k o s n e f′ v′ p =
       record {
-        result = ap Samples (sym (flags-length (behind l m) n both)) ∙ ap lineOf (sym is);
+        result = ap (λ (k : ℕ). Framed (Samples k)) (sym (flags-length (behind l m) n both)) ∙ ap lineOf (sym is);
         flagBytes = p .flagBytes ∙ ap (λ (i : ℕ). over (flagsIn (behind l i)) f) whole ∙ ap (λ (y : Reading). flagsAfter y f) (sym is);
         valueBytes = p .valueBytes ∙ ap (λ (i : ℕ). over (valuesIn (behind l i)) v) whole ∙ ap (λ (y : Reading). valuesAfter y v) (sym is);
       }
@@ -142,5 +144,5 @@ module _ (l f v : List ℕ) (w : wellFormed l ≡ true) (h : Formed l) where
   pub read-close-10 : byte l 0 ≡ 3 → (m ≡ 2 → ⊥) → ReadPost l f v (Refused 10) f v
   read-close-10 k n = post l f v (refused 10) (third k ∙ rw (ne-eqb (length (behind l m)) 0 (λ e. n (omega (arith, e, size, even)))))
 
-  pub read-close : byte l 0 ≡ 3 → m ≡ 2 → ReadPost l f v Close f v
+  pub read-close : byte l 0 ≡ 3 → m ≡ 2 → ReadPost l f v (Framed Close) f v
   read-close k n = post l f v closing (third k ∙ rw (eq-eqb (length (behind l m)) 0 (omega (arith, size, even, n))))

@@ -1,23 +1,23 @@
--- What reading a line answers, and what it leaves in the two buffers for samples.
+-- What reading a line answers, and what it leaves in the two buffers for samples; what writing a line leaves in the output buffer.
 use Prim.Native.Nat.{ℕ, _+_, _-_, _*_, _≤_}
-use mathlib.Core.Bool.{true}
-use mathlib.Core.List.{List, _++_}
+use mathlib.Core.Bool.{Bool, true, false}
+use mathlib.Core.List.{List}
 use mathlib.Core.Path.{_≡_}
+use lib.Dec.{leb}
 use lib.ListN.{length, take, drop}
 use Rattle.rules.specs.Samples.{Trace}
+use Rattle.rules.specs.Buffers.{over, over-at}
 use Rattle.frames.specs.declared.Line.{Line}
-use Rattle.frames.specs.declared.Line.the-variants.{Open, Samples, Close, Refused}
+use Rattle.frames.specs.declared.Line.the-variants.{Frame as Framed, Refused}
+use Rattle.frames.specs.declared.Frame.the-variants.{Open, Samples, Close}
 use Rattle.frames.specs.Frames.{Reading, opening, samples, closing, refused, reading, bytes, areDigits, flagsIn, valuesIn}
 
 -- document 01's values for each case
 abbrev pub lineOf : Reading → Line
-lineOf (opening mode azimuth) = Open mode azimuth
-lineOf (samples P) = Samples (length (P .flags))
-lineOf closing = Close
+lineOf (opening mode azimuth) = Framed (Open mode azimuth)
+lineOf (samples P) = Framed (Samples (length (P .flags)))
+lineOf closing = Framed Close
 lineOf (refused k) = Refused k
-
-abbrev pub over : List ℕ → List ℕ → List ℕ
-over l b = l ++ drop (length l) b
 
 abbrev pub flagsAfter : Reading → List ℕ → List ℕ
 flagsAfter (opening mode azimuth) b = b
@@ -49,3 +49,18 @@ pub record FillPost (line : List ℕ) (n : ℕ) (flags values flags′ values′
 pub record AllDigits (line : List ℕ) (m : ℕ) : Type 0 where
   pub room : m ≤ length line
   pub all : areDigits (take m line) ≡ true
+
+-- ---- writing
+
+-- the place behind the bytes l, written from place at on, and the buffer then; where they do not fit, nothing is written
+abbrev pub placeBehind : Bool → List ℕ → ℕ → ℕ
+placeBehind true l at = at + length l
+placeBehind false l at = at
+
+abbrev pub bufferWith : Bool → List ℕ → ℕ → List ℕ → List ℕ
+bufferWith true l at b = over-at l at b
+bufferWith false l at b = b
+
+pub record WritePost (l : List ℕ) (at : ℕ) (b : List ℕ) (r : ℕ) (b′ : List ℕ) : Type 0 where
+  pub result : r ≡ placeBehind (leb (at + length l) (length b)) l at
+  pub buffer : b′ ≡ bufferWith (leb (at + length l) (length b)) l at b

@@ -1,20 +1,30 @@
-// Frames, one a line: what a line says, or the number with which it is refused.
+// Frames, one a line: what a line says, or the number with which it is refused; and the lines that a survey prints.
+mod writing;
+
 ghost use Prim.Native.Nat.{_+_, _*_, _≤_, _<_};
 ghost use mathlib.Core.Path.{_≡_};
 ghost use lib.ListN.{length, getD, take};
 ghost use Rattle.frames.specs.Frames.{digit, areDigits, wellFormed, Digits};
 ghost use Rattle.frames.specs.Post.{AllDigits, FillPost, ReadPost};
+pub use writing::refusal_line;
+pub use writing::reply_lines;
+pub use writing::totals_line;
 
-// Open with mode and azimuth, so many samples, close, or refused with 9 or 10.
-pub enum Line {
+// Open with mode and azimuth, so many samples, or close.
+pub enum Frame {
     Open(u8, u16),
     Samples(usize),
     Close,
+}
+
+// What a line is: a frame, or refused with 9 or 10.
+pub enum Line {
+    Frame(Frame),
     Refused(u8),
 }
 
 // The value of a hexadecimal digit; 16 for another character.
-pub fn digit(c: u8) -> u8
+fn digit(c: u8) -> u8
     ensures { λ r. ⌜ r ≡ digit c ⌝ }
 {
     if (48 <= c) & (c <= 57) {
@@ -27,7 +37,7 @@ pub fn digit(c: u8) -> u8
 }
 
 // Whether the first n bytes are digits.
-pub fn are_digits(line: &[u8], n: usize) -> bool
+fn are_digits(line: &[u8], n: usize) -> bool
     requires { ⌜ n ≤ length (now line) ⌝ }
     ensures { λ r. ⌜ r ≡ areDigits (take n (now (line .entry))) ⌝ }
 {
@@ -42,7 +52,7 @@ pub fn are_digits(line: &[u8], n: usize) -> bool
 }
 
 // The byte of the two digits at i.
-pub fn byte_at(line: &[u8], i: usize) -> u8
+fn byte_at(line: &[u8], i: usize) -> u8
     requires { ⌜ Digits (now line) i ⌝ }
     ensures { λ r. ⌜ r ≡ 16 * digit (getD (now (line .entry)) i 0) + digit (getD (now (line .entry)) (i + 1) 0) ⌝ }
 {
@@ -52,7 +62,7 @@ pub fn byte_at(line: &[u8], i: usize) -> u8
 }
 
 // 9: empty, over 258 digits, odd, another character, or no final newline.
-pub fn well_formed(line: &[u8]) -> bool
+fn well_formed(line: &[u8]) -> bool
     ensures { λ r. ⌜ r ≡ wellFormed (now (line .entry)) ⌝ }
 {
     let n = line.len();
@@ -72,7 +82,7 @@ pub fn well_formed(line: &[u8]) -> bool
 }
 
 // The n samples of a line, into the two buffers.
-pub fn fill(line: &[u8], n: usize, flags: &mut [u8], values: &mut [u8])
+fn fill(line: &[u8], n: usize, flags: &mut [u8], values: &mut [u8])
     requires { ⌜ (n ≤ length (now flags)) × (n ≤ length (now values)) × AllDigits (now line) (4 * n + 2) ⌝ }
     ensures { λ _. ⌜ FillPost (now (line .entry)) n (now (flags .entry)) (now (values .entry)) (now (flags .exit)) (now (values .exit)) ⌝ }
 {
@@ -99,7 +109,7 @@ pub fn read(line: &[u8], flags: &mut [u8; 64], values: &mut [u8; 64]) -> Line
         }
         let high = byte_at(line, 4) as u16;
         let low = byte_at(line, 6) as u16;
-        return Line::Open(byte_at(line, 2), 256 * high + low);
+        return Line::Frame(Frame::Open(byte_at(line, 2), 256 * high + low));
     }
     if kind == 2 {
         if m % 4 != 2 {
@@ -110,13 +120,13 @@ pub fn read(line: &[u8], flags: &mut [u8; 64], values: &mut [u8; 64]) -> Line
         }
         let n = m / 4;
         fill(line, n, flags, values);
-        return Line::Samples(n);
+        return Line::Frame(Frame::Samples(n));
     }
     if kind == 3 {
         if m != 2 {
             return Line::Refused(10);
         }
-        return Line::Close;
+        return Line::Frame(Frame::Close);
     }
     Line::Refused(10)
 }

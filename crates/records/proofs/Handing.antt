@@ -2,11 +2,10 @@
 -- The replies stand in order of F1, so where the first is open still, all are.
 use Prim.Native.Nat.{ℕ, _+_, _*_, _≤_, _<_}
 use native.Mathlib.Omega.{arith}
-use native.Mathlib.Nat.{add-zero}
 use mathlib.Core.Path.{_≡_, refl, sym, ap, _∙_, subst}
 use mathlib.Core.Bool.{Bool, true, false, cond}
 use mathlib.Core.List.{List, [], _∷_, _++_, append-assoc, append-nil}
-use lib.ListN.{length, length-append, take-append-drop}
+use lib.ListN.{length, length-append}
 use Rattle.rules.specs.declared.Reply.{Reply}
 use Rattle.rules.specs.declared.Slot.{Slot}
 use Rattle.rules.specs.declared.Slot.the-variants.{Idle, Open}
@@ -21,16 +20,9 @@ use Rattle.rules.proofs.Joining.{records-append, records-length}
 use Rattle.rules.proofs.Order.{Rising, rising-all, Ordered, ended-earlier}
 use Rattle.machine.specs.Places.{test, withoutIn, placed, machineOf}
 use Rattle.machine.proofs.Placed.{without-placed}
-use Rattle.records.specs.Buffers.{over-at}
+use Rattle.rules.specs.Buffers.{over-at}
 use Rattle.records.specs.Post.{dueSlot, dueIn, HandedPost, InOrder, Queue, due, DuePost, RetirePost}
-use Rattle.records.proofs.Writing.{over-at-more}
-
--- ---- records end to end
-
--- no bytes written
-pub over-at-nil : (at : ℕ) (b : List ℕ) → over-at [] at b ≡ b
-unfolding over-at
-over-at-nil at b = rw (add-zero, append-nil, take-append-drop)
+use Rattle.rules.proofs.Buffers.{over-at-nil, over-at-more}
 
 -- ---- one place
 

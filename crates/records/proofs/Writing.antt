@@ -1,14 +1,11 @@
 -- Bytes written over a buffer one after the other make up the record.
 use Prim.Native.Nat.{ℕ, _+_, _-_, _*_, _/_, _%_, _≤_}
 use native.Mathlib.Omega.{arith}
-use native.Mathlib.Nat.{add-assoc}
-use native.Mathlib.Numerals.{towards-suc}
 use mathlib.Core.Path.{_≡_, refl, sym, ap, ap₂, _∙_, subst}
 use mathlib.Core.Bool.{Bool, true, false, not, cond, true≢false}
-use mathlib.Core.List.{List, [], _∷_, _++_, append-assoc}
+use mathlib.Core.List.{List, [], _∷_, _++_}
 use lib.Dec.{T}
-use lib.ListN.{length, take, drop, set, length-append}
-use lib.Seq.{take-at, drop-drop, drop-append-add, length-take-le, sets-eq}
+use lib.ListN.{length}
 use lib.Ieee.{Float, nan, inf, fin, binary64, eq, isNan, toBits, up, down, level as level′}
 use borrow.Author.Tests.{eq-eqb}
 use Rattle.rules.specs.declared.Estimate.{Estimate}
@@ -16,7 +13,8 @@ use Rattle.rules.specs.declared.Marks.{Marks}
 use Rattle.rules.specs.declared.Reply.{Reply}
 use Rattle.rules.specs.Replies.{level}
 use Rattle.rules.specs.Records.{bytes, isAverage, flagsOf, confidence, recordOf}
-use Rattle.records.specs.Buffers.{over-at}
+use Rattle.rules.specs.Buffers.{over-at}
+use Rattle.rules.proofs.Buffers.{over-at-next}
 
 -- ---- a float that equals itself is no NaN, and the other is
 
@@ -52,38 +50,6 @@ flags-are m e b x y z w eb ex ey ez ew =
     rw (ex, ey, ez, ew, eb)
     (rw (cond-mod (isAverage e) 1 0 2 refl refl, cond-mod (m .second) 2 0 4 refl refl, cond-mod (m .main) 0 4 8 refl refl, cond-mod (m .military) 8 0 16 refl refl))
 
--- ---- stores
-
-module _ (l : List ℕ) (i : ℕ) where
-  pub put-one : (a : ℕ) → i + 1 ≤ length l → set l i a ≡ over-at (a ∷ []) i l
-  unfolding over-at
-  put-one a h = sets-eq (a ∷ []) l i h
-
-  pub put-two : (a b : ℕ) → i + 2 ≤ length l → set (set l i a) (i + 1) b ≡ over-at (a ∷ b ∷ []) i l
-  unfolding over-at
-  put-two a b h = simp towards-suc (simp towards-suc at (sets-eq (a ∷ b ∷ []) l i h))
-
-  pub put-eight : (a b c d e f g k : ℕ) → i + 8 ≤ length l
-      → set (set (set (set (set (set (set (set l i a) (i + 1) b) (i + 2) c) (i + 3) d) (i + 4) e) (i + 5) f) (i + 6) g) (i + 7) k
-      ≡ over-at (a ∷ b ∷ c ∷ d ∷ e ∷ f ∷ g ∷ k ∷ []) i l
-  unfolding over-at
-  put-eight a b c d e f g k h = simp towards-suc (simp towards-suc at (sets-eq (a ∷ b ∷ c ∷ d ∷ e ∷ f ∷ g ∷ k ∷ []) l i h))
-
-by-one : (x : ℕ) → x % 256 ≡ x / 1 % 256
-by-one x = omega arith
-
-pub bytes-one : (x : ℕ) → x % 256 ∷ [] ≡ bytes 1 x
-unfolding bytes
-bytes-one x = ap (λ (z : ℕ). z ∷ []) (by-one x)
-
-pub bytes-two : (x : ℕ) → x / 256 % 256 ∷ x % 256 ∷ [] ≡ bytes 2 x
-unfolding bytes
-bytes-two x = ap (λ (z : ℕ). x / 256 % 256 ∷ z ∷ []) (by-one x)
-
-pub bytes-eight : (x : ℕ) → x / 72057594037927936 % 256 ∷ x / 281474976710656 % 256 ∷ x / 1099511627776 % 256 ∷ x / 4294967296 % 256 ∷ x / 16777216 % 256 ∷ x / 65536 % 256 ∷ x / 256 % 256 ∷ x % 256 ∷ [] ≡ bytes 8 x
-unfolding bytes
-bytes-eight x = ap (λ (z : ℕ). x / 72057594037927936 % 256 ∷ x / 281474976710656 % 256 ∷ x / 1099511627776 % 256 ∷ x / 4294967296 % 256 ∷ x / 16777216 % 256 ∷ x / 65536 % 256 ∷ x / 256 % 256 ∷ z ∷ []) (by-one x)
-
 -- a range of two bytes
 pub bytes-range : (t : ℕ) → bytes 2 (2 * (t % 32768)) ≡ bytes 2 (2 * t)
 unfolding bytes
@@ -91,19 +57,6 @@ bytes-range t =
     let h : 2 * (t % 32768) / 256 % 256 ≡ 2 * t / 256 % 256 = omega arith in
     let k : 2 * (t % 32768) / 1 % 256 ≡ 2 * t / 1 % 256 = omega arith in
     ap₂ (λ (x y : ℕ). x ∷ y ∷ []) h k
-
--- more bytes, put where those at a place end
-pub over-at-more : (l k b : List ℕ) (at to : ℕ) → to ≡ at + length l → to ≤ length b → over-at k to (over-at l at b) ≡ over-at (l ++ k) at b
-unfolding over-at
-over-at-more l k b at to e h =
-    let n : length (take at b ++ l) ≡ to = length-append (take at b) l ∙ ap (λ (x : ℕ). x + length l) (length-take-le at b (omega arith)) ∙ sym e in
-    rw (take-at (take at b ++ l) (drop (at + length l) b) to n)
-    (ap (λ (x : List ℕ). take at b ++ l ++ k ++ x) (ap (λ (x : ℕ). drop (x + length k) (take at b ++ l ++ drop (at + length l) b)) (sym n) ∙ drop-append-add (take at b ++ l) (drop (at + length l) b) (length k) ∙ drop-drop (length k) (at + length l) b)
-    ∙ ap₂ (λ (x y : List ℕ). x ++ y) (append-assoc (take at b) l k) (ap (λ (x : ℕ). drop x b) (add-assoc at (length l) (length k) ∙ ap (λ (x : ℕ). at + x) (sym (length-append l k)))))
-
--- the next bytes, after those of l
-next : (l k b b₁ b₂ : List ℕ) (at to : ℕ) → to ≡ at + length l → to ≤ length b → b₁ ≡ over-at l at b → b₂ ≡ over-at k to b₁ → b₂ ≡ over-at (l ++ k) at b
-next l k b b₁ b₂ at to e h p q = q ∙ ap (over-at k to) p ∙ over-at-more l k b at to e h
 
 -- The seven fields of a record, written one after the other.
 module _ (r : Reply) (range code sure flags sum bits : ℕ) where
@@ -134,10 +87,10 @@ module _ (r : Reply) (range code sure flags sum bits : ℕ) where
       let l₄ = l₃ ++ bytes 1 flags in
       let l₅ = l₄ ++ bytes 1 (r .reference .n) in
       let l₆ = l₅ ++ bytes 2 sum in
-      let q₂ = next l₁ (bytes 2 code) b b₁ b₂ at (at + 2) refl (omega arith) p₁ p₂ in
-      let q₃ = next l₂ (bytes 2 sure) b b₂ b₃ at (at + 4) refl (omega arith) q₂ p₃ in
-      let q₄ = next l₃ (bytes 1 flags) b b₃ b₄ at (at + 6) refl (omega arith) q₃ p₄ in
-      let q₅ = next l₄ (bytes 1 (r .reference .n)) b b₄ b₅ at (at + 7) refl (omega arith) q₄ p₅ in
-      let q₆ = next l₅ (bytes 2 sum) b b₅ b₆ at (at + 8) refl (omega arith) q₅ p₆ in
-      let q₇ = next l₆ (bytes 8 bits) b b₆ b₇ at (at + 10) refl (omega arith) q₆ p₇ in
+      let q₂ = over-at-next l₁ (bytes 2 code) b b₁ b₂ at (at + 2) refl (omega arith) p₁ p₂ in
+      let q₃ = over-at-next l₂ (bytes 2 sure) b b₂ b₃ at (at + 4) refl (omega arith) q₂ p₃ in
+      let q₄ = over-at-next l₃ (bytes 1 flags) b b₃ b₄ at (at + 6) refl (omega arith) q₃ p₄ in
+      let q₅ = over-at-next l₄ (bytes 1 (r .reference .n)) b b₄ b₅ at (at + 7) refl (omega arith) q₄ p₅ in
+      let q₆ = over-at-next l₅ (bytes 2 sum) b b₅ b₆ at (at + 8) refl (omega arith) q₅ p₆ in
+      let q₇ = over-at-next l₆ (bytes 8 bits) b b₆ b₇ at (at + 10) refl (omega arith) q₆ p₇ in
       q₇ ∙ ap (λ (l : List ℕ). over-at l at b) (named g)

@@ -15,7 +15,7 @@ use Rattle.rules.specs.Machine.{State, retired}
 use Rattle.rules.specs.Records.{records}
 use Rattle.machine.specs.Places.{test, machineOf}
 use Rattle.records.specs.declared.Retired.{Retired}
-use Rattle.records.specs.Buffers.{over-at}
+use Rattle.rules.specs.Buffers.{over-at}
 
 -- ---- the places
 

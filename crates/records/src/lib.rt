@@ -6,7 +6,7 @@ ghost use lib.Ieee.{binary64, toBits};
 ghost use Rattle.rules.specs.Replies.{ended as ended′};
 ghost use Rattle.rules.specs.Records.{bytes, isAverage, flagsOf, confidence, recordOf};
 ghost use Rattle.machine.specs.Places.{test, withoutIn};
-ghost use Rattle.records.specs.Buffers.{over-at};
+ghost use Rattle.rules.specs.Buffers.{over-at};
 ghost use Rattle.records.specs.Post.{dueSlot, dueIn, HandedPost, DuePost, RetirePost};
 use machine::without;
 use replies::ended;

@@ -14,9 +14,9 @@ use rules::Totals;
 use rules::Word;
 use sweep::Answer;
 use sweep::Closed;
+use sweep::Front;
 use sweep::Processor;
 use sweep::Taken;
-use sweep::front::Front;
 ghost use Prim.Native.Nat.{_≤_, _<_};
 ghost use lib.ListN.{length};
 

@@ -6,6 +6,7 @@ pub mod References
 pub mod Ones
 pub mod Ranges
 pub mod ListLaws
+pub mod Buffers
 pub mod Positions
 pub mod Outcomes
 pub mod Each

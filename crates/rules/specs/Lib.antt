@@ -7,6 +7,7 @@ pub mod Replies
 pub mod Machine
 pub mod Records
 pub mod Ranges
+pub mod Buffers
 pub mod Calls
 pub mod Sentences
 pub mod Examples

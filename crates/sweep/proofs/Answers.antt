@@ -15,7 +15,7 @@ use Rattle.rules.specs.Samples.{Trace, _⧺_, bad, pieceLimit, sweepLimit}
 use Rattle.rules.specs.Records.{records}
 use Rattle.rules.proofs.Joining.{records-length}
 use Rattle.rules.specs.Calls.{Answer as Verdict, accepted, refused, takeAnswer, takeRoom}
-use Rattle.sweep.specs.Post.{over}
+use Rattle.rules.specs.Buffers.{over}
 
 pub standard-allowed : Allowed standard
 standard-allowed =

@@ -26,7 +26,8 @@ use Rattle.sweep.specs.declared.Opened.{Opened}
 use Rattle.sweep.specs.declared.Taken.{Taken}
 use Rattle.sweep.specs.declared.Closed.{Closed}
 use Rattle.sweep.specs.State.{Sweep, none, running, idleProcessor, runningProcessor, processorOf, Within, Made}
-use Rattle.sweep.specs.Post.{over, openAs, openOf, longer, takeVerdict, closeVerdict, takeAs, takeBufferAs, closeAs, closeBufferAs, noTotals, TakePost, ClosePost}
+use Rattle.rules.specs.Buffers.{over}
+use Rattle.sweep.specs.Post.{openAs, openOf, longer, takeVerdict, closeVerdict, takeAs, takeBufferAs, closeAs, closeBufferAs, noTotals, TakePost, ClosePost}
 use Rattle.sweep.specs.Whole.{Call, taking, closing, Meets, left, Chain, last, nothing, pieceBy, piece, joinedTrace, handedBy, handedOut, allHandedOut, totalsBy, totalsIn, allTotals, verdictBy, sweepBy, Judged, answer, afterBy, afterClose, Counted, Whole, Demand3, Alike}
 use Rattle.sweep.proofs.Answers.{standard-allowed, Took, took, first-records, join-assoc, join-nothing}
 

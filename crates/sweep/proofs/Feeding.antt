@@ -15,8 +15,8 @@ use Rattle.rules.specs.Calls.{fresh, handed}
 use Rattle.rules.proofs.Joining.{assoc, fresh-join, handed-fresh, handed-done, after-known, records-append, records-length}
 use Rattle.machine.specs.Places.{machineOf}
 use Rattle.records.specs.declared.Retired.{Retired}
-use Rattle.records.specs.Buffers.{over-at}
-use Rattle.records.proofs.Writing.{over-at-more}
+use Rattle.rules.specs.Buffers.{over-at}
+use Rattle.rules.proofs.Buffers.{over-at-more}
 use Rattle.edges.specs.declared.packing.Planes.{Planes}
 use Rattle.sweep.specs.declared.front.Front.{Front}
 use Rattle.sweep.specs.declared.span.Span.{Span}

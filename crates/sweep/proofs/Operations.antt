@@ -20,7 +20,7 @@ use Rattle.rules.specs.Records.{records, totals}
 use Rattle.rules.specs.Calls.{Answer as Verdict, accepted, refused, takeAnswer, closeAnswer, takeRoom, closeRoom, fresh, rest, silence}
 use Rattle.rules.proofs.PastEnd.{rest-silence}
 use Rattle.machine.specs.Places.{machineOf}
-use Rattle.records.specs.Buffers.{over-at}
+use Rattle.rules.specs.Buffers.{over, over-at}
 use Rattle.sweep.specs.declared.Answer.{Answer}
 use Rattle.sweep.specs.declared.Answer.the-variants.{Accepted, Refused}
 use Rattle.sweep.specs.declared.Processor.{Processor}
@@ -28,7 +28,7 @@ use Rattle.sweep.specs.declared.Taken.{Taken}
 use Rattle.sweep.specs.declared.Closed.{Closed}
 use Rattle.sweep.specs.declared.blocks.Run.{Run}
 use Rattle.sweep.specs.State.{frontOf, recentOf, Sweep, none, running, idleProcessor, runningProcessor, processorOf, Within, Made}
-use Rattle.sweep.specs.Post.{over, takeVerdict, takeAs, takeBufferAs, TakePost, closeVerdict, closeAs, closeBufferAs, noTotals, ClosePost}
+use Rattle.sweep.specs.Post.{takeVerdict, takeAs, takeBufferAs, TakePost, closeVerdict, closeAs, closeBufferAs, noTotals, ClosePost}
 use Rattle.sweep.specs.Steps.{stateAt, Fed, Begins, FeedPost, Ends, DrainPost, KeepPost, totalsFrom}
 use Rattle.sweep.proofs.Answers.{standard-allowed}
 use Rattle.sweep.proofs.Streaming.{totals-law}

@@ -25,7 +25,7 @@ use Rattle.edges.specs.declared.packing.Planes.{Planes}
 use Rattle.edges.specs.Words.{bit, Holds, HoldsPart}
 use Rattle.edges.specs.Packing.{Packed, PackedPart}
 use Rattle.edges.proofs.BitLaws.{zero-bit, bit-above}
-use Rattle.records.specs.Buffers.{over-at}
+use Rattle.rules.specs.Buffers.{over-at}
 use Rattle.machine.specs.Places.{machineOf}
 use Rattle.sweep.specs.declared.blocks.Run.{Run}
 use Rattle.sweep.specs.State.{frontOf, recentOf}

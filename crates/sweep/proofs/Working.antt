@@ -24,10 +24,9 @@ use Rattle.rules.proofs.Settled.{edge-timed}
 use Rattle.rules.proofs.Skipping.{skip-to, done-grows, visit-done, skip-done}
 use Rattle.machine.specs.Places.{machineOf}
 use Rattle.records.specs.declared.Retired.{Retired}
-use Rattle.records.specs.Buffers.{over-at}
+use Rattle.rules.specs.Buffers.{over-at}
 use Rattle.records.specs.Post.{RetirePost}
-use Rattle.records.proofs.Writing.{over-at-more}
-use Rattle.records.proofs.Handing.{over-at-nil}
+use Rattle.rules.proofs.Buffers.{over-at-more, over-at-nil}
 use Rattle.edges.specs.Words.{bit, Lowest, WithoutLowest}
 use Rattle.edges.proofs.BitLaws.{zero-bit}
 use Rattle.edges.specs.Planes.{hasEdge}

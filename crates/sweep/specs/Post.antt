@@ -1,32 +1,22 @@
 -- What each operation returns and leaves in its buffer. The equations hold for every processor that belongs to a sweep (`Made`);
 -- for a processor value that no calls make, an operation is safe and ends.
-use Prim.Native.Nat.{ℕ, _+_, _*_}
-use mathlib.Core.Bool.{Bool, true, false}
-use mathlib.Core.List.{List, [], _∷_, _++_}
+use Prim.Native.Nat.{ℕ}
+use mathlib.Core.List.{List, []}
 use mathlib.Core.Path.{_≡_}
-use lib.ListN.{length, drop}
+use lib.ListN.{length}
 use Rattle.rules.specs.Settings.{standard}
 use Rattle.rules.specs.Samples.{Trace, _⧺_}
+use Rattle.rules.specs.Buffers.{over}
 use Rattle.rules.specs.Machine.{final}
 use Rattle.rules.specs.Records.{records, totals}
 use Rattle.rules.specs.Calls.{Answer as Verdict, accepted, refused, openAnswer, takeAnswer, closeAnswer, fresh, rest}
 use Rattle.rules.specs.declared.Totals.{Totals}
-use Rattle.sweep.specs.declared.Answer.{Answer}
 use Rattle.sweep.specs.declared.Answer.the-variants.{Accepted, Refused}
 use Rattle.sweep.specs.declared.Processor.{Processor}
 use Rattle.sweep.specs.declared.Opened.{Opened}
 use Rattle.sweep.specs.declared.Taken.{Taken}
 use Rattle.sweep.specs.declared.Closed.{Closed}
 use Rattle.sweep.specs.State.{Sweep, none, running, processorOf, idleProcessor, runningProcessor, isOpen, takenBy, Made}
-
--- the number of a refusal, or the count of records: document 01's answer for each case
-abbrev pub answerOf : Verdict → ℕ → Answer
-answerOf accepted n = Accepted n
-answerOf (refused k) n = Refused k
-
--- the bytes l at the start of the buffer b, "the rest stays"
-unfoldable pub over : List ℕ → List ℕ → List ℕ
-over l b = l ++ drop (length l) b
 
 -- ---- open. "No processor comes back": a refused opening's is the idle one.
 

@@ -19,7 +19,7 @@ use Rattle.rules.specs.declared.Counts.{Counts}
 use Rattle.rules.specs.declared.Totals.{Totals}
 use Rattle.machine.specs.Places.{machineOf}
 use Rattle.records.specs.declared.Retired.{Retired}
-use Rattle.records.specs.Buffers.{over-at}
+use Rattle.rules.specs.Buffers.{over-at}
 use Rattle.edges.specs.declared.packing.Planes.{Planes}
 use Rattle.edges.specs.Words.{bit}
 use Rattle.rules.specs.declared.Pulse.{Pulse}

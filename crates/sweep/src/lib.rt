@@ -1,10 +1,10 @@
 // Opening, taking and closing a sweep. A processor goes in by value and comes back by value; a refusal gives back the one that went in.
 // No operation asks anything of its caller: any processor value, any slices and any buffer are safe.
-pub mod blocks;
-pub mod front;
-pub mod pieces;
-pub mod span;
-pub mod values;
+mod blocks;
+mod front;
+mod pieces;
+mod span;
+mod values;
 
 ghost use Prim.Native.Nat.{_≤_};
 ghost use mathlib.Core.Path.{_≡_};
@@ -15,7 +15,7 @@ ghost use Rattle.sweep.specs.declared.Answer.the-variants.{Refused};
 ghost use Rattle.sweep.specs.Steps.{totalsFrom};
 use blocks::Run;
 use edges::flags::has_bad;
-use front::Front;
+pub use front::Front;
 use front::no_front;
 use machine::empty_machine;
 use pieces::drain;

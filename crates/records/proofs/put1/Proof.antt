@@ -3,8 +3,8 @@ use Prim.Native.Nat.{ℕ, _%_}
 use borrow.Author.Needs.{needs}
 use mathlib.Core.List.{List}
 use mathlib.Core.Path.{_∙_, ap}
-use Rattle.records.proofs.Writing.{put-one, bytes-one}
-use Rattle.records.specs.Buffers.{over-at}
+use Rattle.rules.proofs.Buffers.{put-one, bytes-one}
+use Rattle.rules.specs.Buffers.{over-at}
 use Rattle.records.proofs.put1.Statement.{statement}
 use Rattle.records.proofs.put1.Tie as tie
 

@@ -5,8 +5,8 @@ use lib.ListN.{length-set}
 use mathlib.Core.List.{List}
 use mathlib.Core.Path.{_∙_, ap}
 use native.Mathlib.Omega.{arith}
-use Rattle.records.proofs.Writing.{put-two, bytes-two}
-use Rattle.records.specs.Buffers.{over-at}
+use Rattle.rules.proofs.Buffers.{put-two, bytes-two}
+use Rattle.rules.specs.Buffers.{over-at}
 use Rattle.records.proofs.put2.Statement.{statement}
 use Rattle.records.proofs.put2.Tie as tie
 

@@ -5,8 +5,8 @@ use lib.ListN.{length-set}
 use mathlib.Core.List.{List}
 use mathlib.Core.Path.{_∙_, ap}
 use native.Mathlib.Omega.{arith}
-use Rattle.records.proofs.Writing.{put-eight, bytes-eight}
-use Rattle.records.specs.Buffers.{over-at}
+use Rattle.rules.proofs.Buffers.{put-eight, bytes-eight}
+use Rattle.rules.specs.Buffers.{over-at}
 use Rattle.records.proofs.put8.Statement.{statement}
 use Rattle.records.proofs.put8.Tie as tie
 
