@@ -6,3 +6,4 @@ pub mod WellFormed
 pub mod Reading
 pub mod RoundTrip
 pub mod Printing
+pub mod Sizes

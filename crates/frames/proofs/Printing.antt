@@ -42,7 +42,7 @@ byte-put b at x g h l p q = put-two b at g h l ∙ ap₂ (λ (y z : ℕ). over-a
 
 -- ---- parts one after the other
 
-over-at-length : (l : List ℕ) (at : ℕ) (b : List ℕ) → at + length l ≤ length b → length (over-at l at b) ≡ length b
+pub over-at-length : (l : List ℕ) (at : ℕ) (b : List ℕ) → at + length l ≤ length b → length (over-at l at b) ≡ length b
 unfolding over-at
 over-at-length l at b h =
     length-append (take at b ++ l) (drop (at + length l) b)

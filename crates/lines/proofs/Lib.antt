@@ -1,0 +1,2 @@
+-- Laws of a survey: what a line makes of a sweep and prints, and the lines of an input.
+pub mod Carrying

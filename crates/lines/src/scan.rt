@@ -1,0 +1,82 @@
+// The lines of an input, one after the other.
+use super::carry::Step;
+use super::carry::line_step;
+use sweep::Processor;
+
+// Where the first line ends: behind its newline, or behind 259 bytes without one, which is no line any more; or it goes on past the input.
+enum End {
+    At(usize),
+    Past,
+}
+
+// What a scan came to: the rest of the input is the start of a line; the output has no more room; or a refusal has stopped the survey.
+pub enum Scan {
+    Rest,
+    Full,
+    Stopped(u8),
+}
+
+// `from` is the place in the input behind the last line carried out, `at` that in the output behind the last byte printed.
+pub struct Scanned {
+    pub scan: Scan,
+    pub processor: Processor,
+    pub from: usize,
+    pub at: usize,
+}
+
+fn line_end(input: &[u8], from: usize) -> End {
+    let n = input.len();
+    let mut i = from;
+    let mut left: usize = 259;
+    while i < n {
+        left -= 1;
+        i += 1;
+        if (input[i - 1] == 10) | (left == 0) {
+            return End::At(i);
+        }
+    }
+    End::Past
+}
+
+// Carries out the lines of the input from a place on, and prints from place at of the output on.
+pub fn scan_lines(p: Processor, input: &[u8], from: usize, out: &mut [u8], at: usize) -> Scanned {
+    let mut q = p;
+    let mut i = from;
+    let mut place = at;
+    loop {
+        let e = line_end(input, i);
+        let End::At(end) = e else {
+            return Scanned {
+                scan: Scan::Rest,
+                processor: q,
+                from: i,
+                at: place,
+            };
+        };
+        let s = line_step(q, &input[i..end], out, place);
+        let how = s.step;
+        q = s.processor;
+        match how {
+            Step::Goes(after) => {
+                i = end;
+                place = after;
+            }
+            Step::Stops(number, after) => {
+                return Scanned {
+                    scan: Scan::Stopped(number),
+                    processor: q,
+                    from: end,
+                    at: after,
+                };
+            }
+            Step::Full => {
+                return Scanned {
+                    scan: Scan::Full,
+                    processor: q,
+                    from: i,
+                    at: place,
+                };
+            }
+        }
+    }
+}
