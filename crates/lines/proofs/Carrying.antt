@@ -170,12 +170,12 @@ module _ (p : Processor) (at : ℕ) (b : List ℕ) where
       open-accepted n e =
           let a = accepted-is (openAnswer mode azimuth) 0 (o .answer) n answer-is e in
           let q : o .processor ≡ runningProcessor mode azimuth (record { flags = []; values = [] }) =
-              ap (λ (x : Opened). x .processor) is ∙ ap (λ (v : Verdict). openAs v mode azimuth .processor) (a .verdict) in
+          ap (λ (x : Opened). x .processor) is ∙ ap (λ (v : Verdict). openAs v mode azimuth .processor) (a .verdict) in
           record {
             inside = omega arith;
             result = λ σ m.
-              ap₂ (λ (x : ℕ) (y : Processor). record { step = Goes x; processor = y }) (sym (add-zero at)) q
-              ∙ ap (λ (v : Verdict). steppedBy (openedAs v mode azimuth) p at) (sym (a .verdict));
+                ap₂ (λ (x : ℕ) (y : Processor). record { step = Goes x; processor = y }) (sym (add-zero at)) q
+                ∙ ap (λ (v : Verdict). steppedBy (openedAs v mode azimuth) p at) (sym (a .verdict));
             output = λ σ m. sym (over-at-nil at b) ∙ ap (λ (v : Verdict). over-at (printed (openedAs v mode azimuth)) at b) (sym (a .verdict));
           }
 
@@ -211,7 +211,7 @@ module _ (p : Processor) (at : ℕ) (b : List ℕ) where
       take-refused k e r b′ c =
           carry-as (λ σ. takenAs (takeVerdict σ P 72) σ P) (λ σ. stops k) r b′
           (λ σ m. ap (λ (v : Verdict). takenAs v σ P)
-            (refused-is (take-verdict σ) (countOf σ P) (t .answer) k (ap (λ (x : Taken). x .answer) (take-is σ m) ∙ take-answer σ (take-verdict σ)) e)) c
+          (refused-is (take-verdict σ) (countOf σ P) (t .answer) k (ap (λ (x : Taken). x .answer) (take-is σ m) ∙ take-answer σ (take-verdict σ)) e)) c
 
       pub take-accepted : (n : ℕ) → t .answer ≡ Accepted n → (size e : ℕ) (b′ : List ℕ) → size ≡ 18 * min n 4
           → WritePost (recordLines (length (take size h) / 18) (take size h)) at b e b′
@@ -220,9 +220,9 @@ module _ (p : Processor) (at : ℕ) (b : List ℕ) where
           record {
             inside = write-inside (recordLines (length (take size h) / 18) (take size h)) at b e b′ (omega arith) w;
             result = λ σ m.
-              ap₂ (λ (x : ℕ) (y : Processor). record { step = Goes x; processor = y }) (put σ m .place)
-              (ap (λ (x : Taken). x .processor) (take-is σ m) ∙ ap (λ (v : Verdict). takeAs v σ P .processor) (acc σ m .verdict))
-              ∙ ap (λ (v : Verdict). steppedBy (takenAs v σ P) p at) (sym (acc σ m .verdict));
+                ap₂ (λ (x : ℕ) (y : Processor). record { step = Goes x; processor = y }) (put σ m .place)
+                (ap (λ (x : Taken). x .processor) (take-is σ m) ∙ ap (λ (v : Verdict). takeAs v σ P .processor) (acc σ m .verdict))
+                ∙ ap (λ (v : Verdict). steppedBy (takenAs v σ P) p at) (sym (acc σ m .verdict));
             output = λ σ m. put σ m .buffer ∙ ap (λ (v : Verdict). over-at (printed (takenAs v σ P)) at b) (sym (acc σ m .verdict));
           }
         where
@@ -270,7 +270,7 @@ module _ (p : Processor) (at : ℕ) (b : List ℕ) where
       close-refused k e r b′ c =
           carry-as (λ σ. closedAs (closeVerdict σ 144) σ) (λ σ. stops k) r b′
           (λ σ m. ap (λ (v : Verdict). closedAs v σ)
-            (refused-is (close-verdict σ) (leftCount σ) (t .answer) k (ap (λ (x : Closed). x .answer) (close-is σ m) ∙ close-answer σ (close-verdict σ)) e)) c
+          (refused-is (close-verdict σ) (leftCount σ) (t .answer) k (ap (λ (x : Closed). x .answer) (close-is σ m) ∙ close-answer σ (close-verdict σ)) e)) c
 
       pub close-accepted : (n : ℕ) → t .answer ≡ Accepted n → (size e f : ℕ) (b₁ b′ : List ℕ) → size ≡ 18 * min n 8
           → WritePost (recordLines (length (take size h) / 18) (take size h)) at b e b₁ → WritePost (totalsLine (t .totals)) e b₁ f b′
@@ -280,9 +280,9 @@ module _ (p : Processor) (at : ℕ) (b : List ℕ) where
           record {
             inside = omega (arith, write-inside (totalsLine (t .totals)) e b₁ f b′ (omega (arith, same, write-inside (recordLines (length (take size h) / 18) (take size h)) at b e b₁ (omega arith) w₁)) w₂, same);
             result = λ σ m.
-              ap₂ (λ (x : ℕ) (y : Processor). record { step = Goes x; processor = y }) (both σ m .place)
-              (ap (λ (x : Closed). x .processor) (close-is σ m) ∙ ap (λ (v : Verdict). closeAs v σ .processor) (acc σ m .verdict))
-              ∙ ap (λ (v : Verdict). steppedBy (closedAs v σ) p at) (sym (acc σ m .verdict));
+                ap₂ (λ (x : ℕ) (y : Processor). record { step = Goes x; processor = y }) (both σ m .place)
+                (ap (λ (x : Closed). x .processor) (close-is σ m) ∙ ap (λ (v : Verdict). closeAs v σ .processor) (acc σ m .verdict))
+                ∙ ap (λ (v : Verdict). steppedBy (closedAs v σ) p at) (sym (acc σ m .verdict));
             output = λ σ m. both σ m .buffer ∙ ap (λ (v : Verdict). over-at (printed (closedAs v σ)) at b) (sym (acc σ m .verdict));
           }
         where
@@ -393,9 +393,9 @@ module _ (line f₀ v₀ : List ℕ) (said : Line) (f v : List ℕ) (read : Read
       record {
         inside = λ h. c .inside;
         result = λ σ m.
-          c .result σ m ∙ ap (λ (o : Outcome). steppedBy o p at) (said-is σ) ∙ ap (λ (t : Bool). steppedAs t (lineAt σ line) p at) (sym q);
+            c .result σ m ∙ ap (λ (o : Outcome). steppedBy o p at) (said-is σ) ∙ ap (λ (t : Bool). steppedAs t (lineAt σ line) p at) (sym q);
         output = λ σ m.
-          c .output σ m ∙ ap (λ (o : Outcome). over-at (printed o) at b) (said-is σ) ∙ ap (λ (t : Bool). outputAs t (lineAt σ line) at b) (sym q);
+            c .output σ m ∙ ap (λ (o : Outcome). over-at (printed o) at b) (said-is σ) ∙ ap (λ (t : Bool). outputAs t (lineAt σ line) at b) (sym q);
       }
 
 -- no room

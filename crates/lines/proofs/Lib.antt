@@ -1,2 +1,3 @@
 -- Laws of a survey: what a line makes of a sweep and prints, and the lines of an input.
 pub mod Carrying
+pub mod Scanning

@@ -1,8 +1,9 @@
 -- What a line, and the lines of a part of the input, leave in the processor and in the output.
-use Prim.Native.Nat.{ℕ, _+_, _≤_, _<_}
+use Prim.Native.Nat.{ℕ, _+_, _-_, _≤_, _<_}
 use mathlib.Core.Bool.{Bool, true, false}
 use mathlib.Core.List.{List, [], _∷_, _++_}
 use mathlib.Core.Path.{_≡_}
+use mathlib.Core.Logic.{_⊎_}
 use lib.Dec.{leb}
 use lib.ListN.{length, take, drop, getD}
 use Rattle.rules.specs.Samples.{Trace}
@@ -111,16 +112,30 @@ abbrev pub EndPost : List ℕ → ℕ → End → Type 0
 EndPost input from (At to) = LineEnd input from to
 EndPost input from Past = LinePast input from
 
--- whatever bytes R come behind the input, what is printed for it is what was printed, and then what the rest prints
+-- what is printed from here on, unless the survey has stopped
 abbrev pub afterwards : Scan → List (List ℕ) → Sweep → List ℕ
 afterwards Rest ls σ = surveyed ls σ
 afterwards NoRoom ls σ = surveyed ls σ
 afterwards (Stopped k) ls σ = []
 
-pub record ScanDone (σ : Sweep) (p : Processor) (input : List ℕ) (from : ℕ) (b : List ℕ) (at : ℕ) (r : Scanned) (b′ : List ℕ) : Type 0 where
+-- From the sweep σ on: `new` was printed, and `next` is the sweep then. Whatever bytes R come behind the input, what the survey prints for both
+-- is what was printed, and then what it prints for the rest.
+pub record Scans (σ : Sweep) (input : List ℕ) (from at : ℕ) (b : List ℕ) (r : Scanned) (b′ : List ℕ) : Type 0 where
   pub new : List ℕ
   pub next : Sweep
   pub made : Made next (r .processor)
   pub place : r .at ≡ at + length new
   pub output : b′ ≡ over-at new at b
   pub same : (R : List ℕ) → surveyed (linesIn (drop from input ++ R)) σ ≡ new ++ afterwards (r .scan) (linesIn (drop (r .from) input ++ R)) next
+
+-- why it came to an end: the rest is shorter than a line may be, or the output has no room for what a line may print
+abbrev pub Because : Scan → List ℕ → ℕ → ℕ → List ℕ → Type 0
+Because Rest input from at b = length input < from + 259
+Because NoRoom input from at b = length b < at + 339
+Because (Stopped k) input from at b = Unit {0}
+
+pub record ScanPost (p : Processor) (input : List ℕ) (from at : ℕ) (b : List ℕ) (r : Scanned) (b′ : List ℕ) : Type 0 where
+  pub reach : from ≤ length input → r .from ≤ length input
+  pub inside : at ≤ length b → r .at ≤ length b
+  pub because : (σ : Sweep) → Made σ p → Because (r .scan) input (r .from) (r .at) b
+  pub scans : (σ : Sweep) → Made σ p → Scans σ input from at b r b′

@@ -1,9 +1,10 @@
 // The lines of an input, one after the other.
+ghost use Rattle.lines.specs.Post.{EndPost, ScanPost};
 use super::carry::Step;
 use super::carry::line_step;
 use sweep::Processor;
 
-// Where the first line ends: behind its newline, or behind 259 bytes without one, which is no line any more; or it goes on past the input.
+// A line ends behind its newline, or behind 259 bytes without one, which are no line any more; or it goes on past the input.
 enum End {
     At(usize),
     Past,
@@ -24,14 +25,21 @@ pub struct Scanned {
     pub at: usize,
 }
 
-fn line_end(input: &[u8], from: usize) -> End {
+// Where the line that begins at `from` ends.
+fn line_end(input: &[u8], from: usize) -> End
+    ensures { λ r. ⌜ EndPost (now (input .entry)) from r ⌝ }
+{
     let n = input.len();
     let mut i = from;
     let mut left: usize = 259;
     while i < n {
-        left -= 1;
+        let c = input[i];
         i += 1;
-        if (input[i - 1] == 10) | (left == 0) {
+        left -= 1;
+        if c == 10 {
+            return End::At(i);
+        }
+        if left == 0 {
             return End::At(i);
         }
     }
@@ -39,7 +47,9 @@ fn line_end(input: &[u8], from: usize) -> End {
 }
 
 // Carries out the lines of the input from a place on, and prints from place at of the output on.
-pub fn scan_lines(p: Processor, input: &[u8], from: usize, out: &mut [u8], at: usize) -> Scanned {
+pub fn scan_lines(p: Processor, input: &[u8], from: usize, out: &mut [u8], at: usize) -> Scanned
+    ensures { λ r. ⌜ ScanPost p (now (input .entry)) from at (now (out .entry)) r (now (out .exit)) ⌝ }
+{
     let mut q = p;
     let mut i = from;
     let mut place = at;

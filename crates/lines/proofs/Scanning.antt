@@ -1,0 +1,439 @@
+-- The lines of an input: where one ends, what it prints, and what is left.
+use Prim.Native.Nat.{ℕ, zero, suc, _+_, _-_, _*_, _≤_, _<_}
+use native.Mathlib.Omega.{arith}
+use mathlib.Core.Path.{_≡_, refl, sym, ap, ap₂, _∙_, subst}
+use mathlib.Core.Logic.{_⊎_, inl, inr}
+use mathlib.Core.Bool.{Bool, true, false, not, cond, _&&_}
+use mathlib.Core.List.{List, [], _∷_, _++_, append-assoc, append-nil}
+use lib.Dec.{leb, ltb, eqb}
+use lib.ListN.{length, getD, take, drop, length-append, length-drop, take-append-drop}
+use lib.Seq.{getD-take, getD-drop, length-take-le, drop-drop, take-suc, getD-append-seam, getD-at}
+use borrow.Author.Tests.{leb-true, leb-false, le-leb, ltb-true, ltb-false, eqb-true, eqb-false, eq-eqb, ne-eqb}
+use Rattle.rules.specs.Lists.{All}
+use Rattle.rules.specs.Samples.{Trace, _⧺_, sweepLimit}
+use Rattle.rules.specs.Buffers.{over-at}
+use Rattle.rules.specs.Calls.{Answer as Verdict, accepted, refused, openAnswer, takeAnswer}
+use Rattle.rules.proofs.Truth.{and-left}
+use Rattle.rules.proofs.ListLaws.{all-append}
+use Rattle.rules.proofs.Buffers.{over-at-nil, over-at-next}
+use Rattle.sweep.specs.declared.Processor.{Processor}
+use Rattle.sweep.specs.State.{Sweep, none, running, processorOf, Within, Sound, Made}
+use Rattle.sweep.specs.Post.{longer, takeVerdict, closeVerdict}
+use Rattle.sweep.proofs.Answers.{took}
+use Rattle.frames.specs.Frames.{Reading, opening, samples, closing, reading}
+use Rattle.frames.specs.Frames.{refused as unread}
+use Rattle.frames.specs.Writing.{refusalLine}
+use Rattle.frames.proofs.Sizes.{Sized, reading-sized, no-newline, too-long}
+use Rattle.lines.specs.declared.carry.Step.{Step}
+use Rattle.lines.specs.declared.carry.Step.the-variants.{Goes, Stops, Full}
+use Rattle.lines.specs.declared.carry.Stepped.{Stepped}
+use Rattle.lines.specs.declared.scan.End.{End}
+use Rattle.lines.specs.declared.scan.End.the-variants.{At, Past}
+use Rattle.lines.specs.declared.scan.Scan.the-variants.{Rest, Stopped}
+use Rattle.lines.specs.declared.scan.Scan.the-variants.{Full as NoRoom}
+use Rattle.lines.specs.declared.scan.Scanned.{Scanned}
+use Rattle.lines.specs.Survey.{Outcome, goes, stops, openedAs, takenAs, closedAs, carried, lineAt, printed, onto, linesIn, further, surveyed}
+use Rattle.lines.specs.Post.{steppedBy, steppedAs, outputAs, roomy, placeOf, StepPost, NoNewline, LineEnd, LinePast, EndPost, afterwards, Scans, Because, ScanPost}
+
+-- ---- where a line ends
+
+pub record Looking (input : List ℕ) (from i left : ℕ) : Type 0 where
+  pub start : from ≤ i
+  pub sum : left + i ≡ from + 259
+  pub some : 0 < left
+  pub seen : NoNewline input from i
+
+module _ (input : List ℕ) (from : ℕ) where
+  pub looking-start : Looking input from from 259
+  looking-start = record { start = omega arith; sum = omega arith; some = omega arith; seen = record { none = λ k a b e. omega arith } }
+
+  module _ (i left : ℕ) (h : Looking input from i left) (more : i < length input) where
+    upTo : NoNewline input from (i + 1 - 1)
+    upTo = record { none = λ k a b e. h .seen .none k a (omega arith) e }
+
+    pub found-newline : getD input i 0 ≡ 10 → EndPost input from (At (i + 1))
+    found-newline e =
+        record {
+          some = omega (arith, h .start);
+          inside = omega arith;
+          before = upTo;
+          ends = inl (ap (λ (k : ℕ). getD input k 0) {x = i + 1 - 1} {y = i} (omega arith) ∙ e);
+        }
+
+    pub found-long : left - 1 ≡ 0 → EndPost input from (At (i + 1))
+    found-long e = record { some = omega (arith, h .start); inside = omega arith; before = upTo; ends = inr (omega (arith, h .sum, h .some, e)) }
+
+    pub looking-next : (getD input i 0 ≡ 10 → ⊥) → (left - 1 ≡ 0 → ⊥) → Looking input from (i + 1) (left - 1)
+    looking-next d z =
+        record {
+          start = omega (arith, h .start);
+          sum = omega (arith, h .sum, h .some);
+          some = omega (arith, z);
+          seen = record { none = λ k a b e. go k a b e (ltb k i) refl };
+        }
+      where
+        go : (k : ℕ) → from ≤ k → k < i + 1 → getD input k 0 ≡ 10 → (t : Bool) → ltb k i ≡ t → ⊥
+        go k a b e true q = h .seen .none k a (ltb-true k i q) e
+        go k a b e false q = d (ap (λ (j : ℕ). getD input j 0) {x = i} {y = k} (omega (arith, ltb-false k i q)) ∙ e)
+
+  pub looking-past : (i left : ℕ) → length input ≤ i → Looking input from i left → EndPost input from Past
+  looking-past i left l h =
+      record { short = omega (arith, h .sum, h .some); before = record { none = λ k a b e. h .seen .none k a (omega arith) e } }
+
+-- ---- the lines of bytes
+
+-- no newline among them
+abbrev Plain : List ℕ → Type 0
+Plain l = All (λ c. c ≡ 10 → ⊥) l
+
+plain : (l : List ℕ) → ((k : ℕ) → k < length l → getD l k 0 ≡ 10 → ⊥) → Plain l
+plain [] h = tt
+plain (c ∷ l) h = (h 0 (omega arith), plain l (λ k s. h (suc k) (omega arith)))
+
+-- the bytes from one place to another
+abbrev part : List ℕ → ℕ → ℕ → List ℕ
+part input from to = take (to - from) (drop from input)
+
+part-plain : (input : List ℕ) (from to : ℕ) → from ≤ to → to ≤ length input → NoNewline input from to → Plain (part input from to)
+part-plain input from to l s h =
+    plain (part input from to)
+    (λ k q e. h .none (from + k) (omega arith) (omega (arith, size))
+    (sym (getD-take (to - from) (drop from input) k 0 (omega (arith, size)) ∙ getD-drop from input k 0) ∙ e))
+  where
+    size : length (part input from to) ≡ to - from
+    size = length-take-le (to - from) (drop from input) (omega (arith, length-drop from input))
+
+part-rest : (input : List ℕ) (from to : ℕ) → from ≤ to → (R : List ℕ) → drop from input ++ R ≡ part input from to ++ (drop to input ++ R)
+part-rest input from to l R =
+    ap (λ (x : List ℕ). x ++ R)
+    (sym (take-append-drop (to - from) (drop from input))
+    ∙ ap (λ (x : List ℕ). part input from to ++ x) (drop-drop (to - from) from input ∙ ap (λ (n : ℕ). drop n input) {x = from + (to - from)} {y = to} (omega arith)))
+    ∙ append-assoc (part input from to) (drop to input) R
+
+-- a line, and what comes behind it
+lines-line : (l Y : List ℕ) → Plain l → linesIn (l ++ 10 ∷ Y) ≡ (l ++ 10 ∷ []) ∷ linesIn Y
+unfolding linesIn
+lines-line [] Y h = refl
+lines-line (c ∷ l) Y h = rw (ne-eqb c 10 (h .0)) (ap (onto c) (lines-line l Y (h .1)))
+
+-- bytes that are no whole line begin the first line
+record Begins (l : List ℕ) (ls : List (List ℕ)) : Type 0 where
+  more : List ℕ
+  others : List (List ℕ)
+  is : ls ≡ (l ++ more) ∷ others
+
+onto-begins : (c : ℕ) (ls : List (List ℕ)) → Begins (c ∷ []) (onto c ls)
+onto-begins c [] = record { more = []; others = []; is = refl }
+onto-begins c (l ∷ ls) = record { more = l; others = ls; is = refl }
+
+lines-begin : (l Y : List ℕ) → Plain l → 0 < length l → Begins l (linesIn (l ++ Y))
+unfolding linesIn
+lines-begin [] Y h s = absurd (omega arith)
+lines-begin (c ∷ []) Y h s =
+    let b = onto-begins c (linesIn Y) in
+    record { more = b .more; others = b .others; is = rw (ne-eqb c 10 (h .0)) (b .is) }
+lines-begin (c ∷ d ∷ l) Y h s =
+    let b = lines-begin (d ∷ l) Y (h .1) (omega arith) in
+    record { more = b .more; others = b .others; is = rw (ne-eqb c 10 (h .0)) (ap (onto c) (b .is)) }
+
+-- ---- what the first line prints, and then the others
+
+plain-last : (l : List ℕ) → Plain l → 0 < length l → getD l (length l - 1) 0 ≡ 10 → ⊥
+plain-last [] h s e = omega arith
+plain-last (c ∷ []) h s e = h .0 e
+plain-last (c ∷ d ∷ l) h s e =
+    plain-last (d ∷ l) (h .1) (omega arith) (ap (λ (k : ℕ). getD (c ∷ d ∷ l) k 0) {x = suc (length (d ∷ l) - 1)} {y = length (c ∷ d ∷ l) - 1} (omega arith) ∙ e)
+
+nine : (σ : Sweep) (l : List ℕ) → reading l ≡ unread 9 → lineAt σ l ≡ stops 9
+unfolding lineAt
+nine σ l e = ap (carried σ) e
+
+-- 259 bytes without a newline are refused, whatever comes behind them
+long-nine : (l m : List ℕ) → Plain l → length l ≡ 259 → reading (l ++ m) ≡ unread 9
+long-nine l [] h s =
+    ap reading (append-nil l) ∙ no-newline l (plain-last l h (omega (arith, s)))
+long-nine l (c ∷ m) h s = too-long (l ++ c ∷ m) (omega (arith, s, length-append l (c ∷ m)))
+
+survey-long : (l Y : List ℕ) (σ : Sweep) → Plain l → length l ≡ 259 → surveyed (linesIn (l ++ Y)) σ ≡ further (lineAt σ l) (surveyed (linesIn Y))
+unfolding surveyed
+survey-long l Y σ h s =
+    let b = lines-begin l Y h (omega (arith, s)) in
+    ap (λ (ls : List (List ℕ)). surveyed ls σ) (b .is)
+    ∙ ap (λ (o : Outcome). further o (surveyed (b .others))) (nine σ (l ++ b .more) (long-nine l (b .more) h s))
+    ∙ ap (λ (o : Outcome). further o (surveyed (linesIn Y))) (sym (nine σ l (ap reading (sym (append-nil l)) ∙ long-nine l [] h s)))
+
+survey-line : (l Y : List ℕ) (σ : Sweep) → Plain l → surveyed (linesIn (l ++ 10 ∷ Y)) σ ≡ further (lineAt σ (l ++ 10 ∷ [])) (surveyed (linesIn Y))
+unfolding surveyed
+survey-line l Y σ h = ap (λ (ls : List (List ℕ)). surveyed ls σ) (lines-line l Y h)
+
+module _ (input : List ℕ) (from to : ℕ) (h : LineEnd input from to) where
+  size : length (part input from to) ≡ to - from
+  size = length-take-le (to - from) (drop from input) (omega (arith, length-drop from input, h .inside))
+
+  -- the bytes before the last, and the last
+  split : part input from to ≡ part input from (to - 1) ++ getD input (to - 1) 0 ∷ []
+  split =
+      ap (λ (n : ℕ). take n (drop from input)) {x = to - from} {y = suc (to - 1 - from)} (omega (arith, h .some))
+      ∙ take-suc (drop from input) (to - 1 - from) 0 (omega (arith, length-drop from input, h .some, h .inside))
+      ∙ ap (λ (c : ℕ). part input from (to - 1) ++ c ∷ [])
+      (getD-drop from input (to - 1 - from) 0 ∙ ap (λ (k : ℕ). getD input k 0) {x = from + (to - 1 - from)} {y = to - 1} (omega (arith, h .some)))
+
+  pub survey-first : (R : List ℕ) (σ : Sweep)
+      → surveyed (linesIn (drop from input ++ R)) σ ≡ further (lineAt σ (part input from to)) (surveyed (linesIn (drop to input ++ R)))
+  survey-first R σ =
+      ap (λ (x : List ℕ). surveyed (linesIn x) σ) (part-rest input from to (omega (arith, h .some)) R) ∙ go (eqb (getD input (to - 1) 0) 10) refl
+    where
+      short : Plain (part input from (to - 1))
+      short = part-plain input from (to - 1) (omega (arith, h .some)) (omega (arith, h .inside)) (h .before)
+
+      go : (t : Bool) → eqb (getD input (to - 1) 0) 10 ≡ t
+          → surveyed (linesIn (part input from to ++ (drop to input ++ R))) σ ≡ further (lineAt σ (part input from to)) (surveyed (linesIn (drop to input ++ R)))
+      go true e =
+          let ten : part input from to ≡ part input from (to - 1) ++ 10 ∷ [] = split ∙ ap (λ (c : ℕ). part input from (to - 1) ++ c ∷ []) (eqb-true (getD input (to - 1) 0) 10 e) in
+          ap (λ (x : List ℕ). surveyed (linesIn (x ++ (drop to input ++ R))) σ) ten
+          ∙ ap (λ (x : List ℕ). surveyed (linesIn x) σ) (append-assoc (part input from (to - 1)) (10 ∷ []) (drop to input ++ R))
+          ∙ survey-line (part input from (to - 1)) (drop to input ++ R) σ short
+          ∙ ap (λ (x : List ℕ). further (lineAt σ x) (surveyed (linesIn (drop to input ++ R)))) (sym ten)
+      go false e = survey-long (part input from to) (drop to input ++ R) σ (all (h .ends)) (omega (arith, size, far (h .ends)))
+        where
+          not-ten : getD input (to - 1) 0 ≡ 10 → ⊥
+          not-ten = eqb-false (getD input (to - 1) 0) 10 e
+
+          far : (getD input (to - 1) 0 ≡ 10) ⊎ (to ≡ from + 259) → to ≡ from + 259
+          far (inl z) = absurd (not-ten z)
+          far (inr z) = z
+
+          all : (getD input (to - 1) 0 ≡ 10) ⊎ (to ≡ from + 259) → Plain (part input from to)
+          all x = subst Plain (sym split) (all-append (λ c. c ≡ 10 → ⊥) (part input from (to - 1)) (getD input (to - 1) 0 ∷ []) short (not-ten, tt))
+
+-- ---- the sweep that goes on is one that accepted calls make
+
+abbrev Good : Outcome → Type 0
+Good (goes σ l) = Sound σ
+Good (stops k) = Unit {0}
+
+good-open : (mode azimuth : ℕ) → Good (openedAs (openAnswer mode azimuth) mode azimuth)
+unfolding openAnswer
+good-open mode azimuth = go (leb 1 mode && leb mode 3) (ltb 16383 azimuth) refl
+  where
+    go : (a b : Bool) → (leb 1 mode && leb mode 3) ≡ a → Good (openedAs (cond (not a) (refused 1) (cond b (refused 2) accepted)) mode azimuth)
+    go false b e = tt
+    go true true e = tt
+    go true false e =
+        record { named = leb-true 1 mode (and-left (leb 1 mode) (leb mode 3) e); alike = refl; short = omega arith; bytes = tt }
+
+good-take : (σ : Sweep) → Sound σ → (P : Trace) → All (λ v. v ≤ 255) (P .values) → (v : Verdict) → takeVerdict σ P 72 ≡ v → Good (takenAs v σ P)
+unfolding takeVerdict
+good-take none s P b accepted e = tt
+good-take none s P b (refused k) e = tt
+good-take (running mode azimuth T) s P b (refused k) e = tt
+good-take (running mode azimuth T) s P b accepted e =
+    let t = took true (length (T .flags)) (P .flags) (P .values) 72 e in
+    record {
+      named = s .named;
+      alike = length-append (T .flags) (P .flags) ∙ ap₂ (λ (x y : ℕ). x + y) (s .alike) (t .alike) ∙ sym (length-append (T .values) (P .values));
+      short = omega (arith, length-append (T .flags) (P .flags), t .sweep);
+      bytes = all-append (λ v. v ≤ 255) (T .values) (P .values) (s .bytes) b;
+    }
+
+good-close : (σ : Sweep) (v : Verdict) → Good (closedAs v σ)
+good-close σ accepted = tt
+good-close σ (refused k) = tt
+
+good-carried : (σ : Sweep) → Sound σ → (x : Reading) → Sized x → Good (carried σ x)
+good-carried σ s (opening mode azimuth) z = good-open mode azimuth
+good-carried σ s (samples P) z = good-take σ s P (z .bytes) (takeVerdict σ P 72) refl
+good-carried σ s closing z = good-close σ (closeVerdict σ 144)
+good-carried σ s (unread k) z = tt
+
+good-line : (σ : Sweep) → Sound σ → (l : List ℕ) → Good (lineAt σ l)
+unfolding lineAt
+good-line σ s l = good-carried σ s (reading l) (reading-sized l)
+
+-- ---- a step, taken apart
+
+kindOf : Step → ℕ
+kindOf (Goes e) = 0
+kindOf (Stops k e) = 1
+kindOf Full = 2
+
+numberIn : Step → ℕ
+numberIn (Goes e) = 0
+numberIn (Stops k e) = k
+numberIn Full = 0
+
+record Went (t : Bool) (o : Outcome) (place : ℕ) (s : Stepped) (e : ℕ) : Type 0 where
+  room : t ≡ true
+  next : Sweep
+  new : List ℕ
+  is : o ≡ goes next new
+  to : e ≡ place + length new
+  made : s .processor ≡ processorOf next
+
+went : (t : Bool) (o : Outcome) (q : Processor) (place : ℕ) (s : Stepped) (e : ℕ) → s ≡ steppedAs t o q place → s .step ≡ Goes e → Went t o place s e
+unfolding kindOf
+went true (goes σ l) q place s e is h =
+    record {
+      room = refl;
+      next = σ;
+      new = l;
+      is = refl;
+      to = ap (λ (x : Step). placeOf x 0) (sym h ∙ ap (λ (x : Stepped). x .step) is);
+      made = ap (λ (x : Stepped). x .processor) is;
+    }
+went true (stops k) q place s e is h = absurd (omega (arith, ap kindOf (sym h ∙ ap (λ (x : Stepped). x .step) is)))
+went false o q place s e is h = absurd (omega (arith, ap kindOf (sym h ∙ ap (λ (x : Stepped). x .step) is)))
+
+record Stood (t : Bool) (o : Outcome) (q : Processor) (place : ℕ) (s : Stepped) (k e : ℕ) : Type 0 where
+  room : t ≡ true
+  is : o ≡ stops k
+  to : e ≡ place + length (refusalLine k)
+  made : s .processor ≡ q
+
+stood : (t : Bool) (o : Outcome) (q : Processor) (place : ℕ) (s : Stepped) (k e : ℕ) → s ≡ steppedAs t o q place → s .step ≡ Stops k e → Stood t o q place s k e
+unfolding kindOf numberIn
+stood true (goes σ l) q place s k e is h = absurd (omega (arith, ap kindOf (sym h ∙ ap (λ (x : Stepped). x .step) is)))
+stood true (stops j) q place s k e is h =
+    let both = sym h ∙ ap (λ (x : Stepped). x .step) is in
+    record {
+      room = refl;
+      is = ap stops (ap numberIn (sym both));
+      to = ap (λ (x : Step). placeOf x 0) both;
+      made = ap (λ (x : Stepped). x .processor) is;
+    }
+stood false o q place s k e is h = absurd (omega (arith, ap kindOf (sym h ∙ ap (λ (x : Stepped). x .step) is)))
+
+record Stuck (t : Bool) (q : Processor) (s : Stepped) : Type 0 where
+  room : t ≡ false
+  made : s .processor ≡ q
+
+stuck : (t : Bool) (o : Outcome) (q : Processor) (place : ℕ) (s : Stepped) → s ≡ steppedAs t o q place → s .step ≡ Full → Stuck t q s
+unfolding kindOf
+stuck true (goes σ l) q place s is h = absurd (omega (arith, ap kindOf (sym h ∙ ap (λ (x : Stepped). x .step) is)))
+stuck true (stops k) q place s is h = absurd (omega (arith, ap kindOf (sym h ∙ ap (λ (x : Stepped). x .step) is)))
+stuck false o q place s is h = record { room = refl; made = ap (λ (x : Stepped). x .processor) is }
+
+-- ---- the lines so far
+
+-- after the lines up to place i of the input, with q the processor then and the output printed up to `place`
+pub record Scanning (p : Processor) (input : List ℕ) (from at : ℕ) (b₀ : List ℕ) (q : Processor) (i place : ℕ) (b : List ℕ) : Type 0 where
+  pub size : length b ≡ length b₀
+  pub reach : from ≤ length input → i ≤ length input
+  pub inside : at ≤ length b₀ → place ≤ length b₀
+  pub scans : (σ : Sweep) → Made σ p → Scans σ input from at b₀ (record { scan = Rest; processor = q; from = i; at = place }) b
+
+module _ (p : Processor) (input : List ℕ) (from at : ℕ) (b₀ : List ℕ) where
+  pub scanning-start : Scanning p input from at b₀ p from at b₀
+  scanning-start =
+      record {
+        size = refl;
+        reach = λ h. h;
+        inside = λ h. h;
+        scans = λ σ m.
+            record { new = []; next = σ; made = m; place = omega arith; output = sym (over-at-nil at b₀); same = λ R. refl };
+      }
+
+  module _ (q : Processor) (i place : ℕ) (b : List ℕ) (h : Scanning p input from at b₀ q i place b) where
+    pub scanned-rest : LinePast input i → ScanPost p input from at b₀ (record { scan = Rest; processor = q; from = i; at = place }) b
+    scanned-rest e = record { reach = h .reach; inside = h .inside; because = λ σ m. e .short; scans = h .scans }
+
+    module _ (to : ℕ) (line : LineEnd input i to) (s : Stepped) (b′ : List ℕ) (step : StepPost q (part input i to) place b s b′) where
+      -- the line goes on, with what it printed behind what was
+      module _ (e : ℕ) (kind : s .step ≡ Goes e) where
+        further-on : (σ : Sweep) → Made σ p → Scans σ input from at b₀ (record { scan = Rest; processor = s .processor; from = to; at = e }) b′
+        further-on σ m =
+            let d = h .scans σ m in
+            let o = lineAt (d .next) (part input i to) in
+            let w = went (roomy place b) o q place s e (step .result (d .next) (d .made)) kind in
+            let room = leb-true (place + 339) (length b) (w .room) in
+            let out : b′ ≡ over-at (w .new) place b =
+            step .output (d .next) (d .made) ∙ ap₂ (λ (t : Bool) (x : Outcome). outputAs t x place b) (w .room) (w .is) in
+            record {
+              new = d .new ++ w .new;
+              next = w .next;
+              made = record { is = w .made; sound = subst Good (w .is) (good-line (d .next) (d .made .sound) (part input i to)) };
+              place = omega (arith, w .to, d .place, length-append (d .new) (w .new));
+              output = over-at-next (d .new) (w .new) b₀ b b′ at place (d .place) (omega (arith, room, h .size)) (d .output) out;
+              same = λ R.
+                  d .same R
+                  ∙ ap (λ (x : List ℕ). d .new ++ x) (survey-first input i to line R (d .next) ∙ ap (λ (x : Outcome). further x (surveyed (linesIn (drop to input ++ R)))) (w .is))
+                  ∙ sym (append-assoc (d .new) (w .new) (surveyed (linesIn (drop to input ++ R)) (w .next)));
+            }
+
+        pub scanning-next : length b′ ≡ length b → Scanning p input from at b₀ (s .processor) to e b′
+        scanning-next l =
+            record {
+              size = l ∙ h .size;
+              reach = λ x. line .inside;
+              inside = λ x. go (h .inside x);
+              scans = further-on;
+            }
+          where
+            go : place ≤ length b₀ → e ≤ length b₀
+            go x = omega (arith, step .inside (omega (arith, h .size)), ap (λ (y : Step). placeOf y place) kind, h .size)
+
+      -- a refusal is the last that is printed
+      module _ (k e : ℕ) (kind : s .step ≡ Stops k e) where
+        pub scanned-stop : ScanPost p input from at b₀ (record { scan = Stopped k; processor = s .processor; from = to; at = e }) b′
+        scanned-stop =
+            record {
+              reach = λ x. line .inside;
+              inside = λ x. go (h .inside x);
+              because = λ σ m. tt;
+              scans = last;
+            }
+          where
+            go : place ≤ length b₀ → e ≤ length b₀
+            go x = omega (arith, step .inside (omega (arith, h .size)), ap (λ (y : Step). placeOf y place) kind, h .size)
+
+            last : (σ : Sweep) → Made σ p → Scans σ input from at b₀ (record { scan = Stopped k; processor = s .processor; from = to; at = e }) b′
+            last σ m =
+                let d = h .scans σ m in
+                let o = lineAt (d .next) (part input i to) in
+                let w = stood (roomy place b) o q place s k e (step .result (d .next) (d .made)) kind in
+                let room = leb-true (place + 339) (length b) (w .room) in
+                let out : b′ ≡ over-at (refusalLine k) place b =
+                step .output (d .next) (d .made) ∙ ap₂ (λ (t : Bool) (x : Outcome). outputAs t x place b) (w .room) (w .is) in
+                record {
+                  new = d .new ++ refusalLine k;
+                  next = d .next;
+                  made = record { is = w .made ∙ d .made .is; sound = d .made .sound };
+                  place = omega (arith, w .to, d .place, length-append (d .new) (refusalLine k));
+                  output = over-at-next (d .new) (refusalLine k) b₀ b b′ at place (d .place) (omega (arith, room, h .size)) (d .output) out;
+                  same = λ R.
+                      d .same R
+                      ∙ ap (λ (x : List ℕ). d .new ++ x) (survey-first input i to line R (d .next) ∙ ap (λ (x : Outcome). further x (surveyed (linesIn (drop to input ++ R)))) (w .is))
+                      ∙ sym (append-nil (d .new ++ refusalLine k));
+                }
+
+      -- no room: nothing happened
+      pub scanned-full : s .step ≡ Full → ScanPost p input from at b₀ (record { scan = NoRoom; processor = s .processor; from = i; at = place }) b′
+      scanned-full kind =
+          record {
+            reach = h .reach;
+            inside = h .inside;
+            because = λ σ m.
+                let d = h .scans σ m in
+                let w = stuck (roomy place b) (lineAt (d .next) (part input i to)) q place s (step .result (d .next) (d .made)) kind in
+                omega (arith, leb-false (place + 339) (length b) (w .room), h .size);
+            scans = λ σ m.
+                let d = h .scans σ m in
+                let o = lineAt (d .next) (part input i to) in
+                let w = stuck (roomy place b) o q place s (step .result (d .next) (d .made)) kind in
+                record {
+                  new = d .new;
+                  next = d .next;
+                  made = record { is = w .made ∙ d .made .is; sound = d .made .sound };
+                  place = d .place;
+                  output = step .output (d .next) (d .made) ∙ ap (λ (t : Bool). outputAs t o place b) (w .room) ∙ d .output;
+                  same = d .same;
+                };
+          }
+
+-- ---- where a line ends, taken apart
+
+pub end-at : (input : List ℕ) (from : ℕ) (r : End) (to : ℕ) → r ≡ At to → EndPost input from r → LineEnd input from to
+end-at input from r to e h = subst (EndPost input from) e h
+
+pub end-past : (input : List ℕ) (from : ℕ) (r : End) → r ≡ Past → EndPost input from r → LinePast input from
+end-past input from r e h = subst (EndPost input from) e h
