@@ -1,5 +1,6 @@
 // The survey program: frames from standard input, replies and totals to standard output, up to the end of input or the first refusal.
-// What is printed for which input is proved in the crate `lines`; here bytes are only read and written.
+// What is printed for which input is proved in the crate `lines`; here bytes are only read and written. Standard error gets one line: which
+// refusal stopped the survey and after how many bytes of input, or what could not be read or written.
 use libc::EINTR;
 use libc::STDERR_FILENO;
 use libc::STDIN_FILENO;
@@ -10,13 +11,16 @@ use lines::line_step;
 use lines::scan_lines;
 use sweep::Processor;
 use sweep::idle;
+ghost use Prim.Native.Nat.{_≤_};
+ghost use mathlib.Core.Path.{_≡_};
+ghost use lib.ListN.{length};
 
 // A proved loop has to end, and nothing says that an input does. So the loops around calls of the system count down from a number that no
 // run uses up.
 const TURNS: u64 = 18446744073709551615;
 
-// A survey on its way: the processor, how many bytes at the start of the input buffer are not carried out yet, how many input bytes were, and
-// whether it is over.
+// A survey on its way: the processor, how many bytes at the start of the input buffer are not carried out yet, how many bytes of input were,
+// and whether it is over.
 struct Survey {
     processor: Processor,
     kept: usize,
@@ -24,18 +28,60 @@ struct Survey {
     over: bool,
 }
 
+fn ended(p: Processor) -> Survey {
+    Survey {
+        processor: p,
+        kept: 0,
+        used: 0,
+        over: true,
+    }
+}
+
+// What carrying out lines came to: the processor, the place behind the last line, whether lines are left, and whether the survey is over.
+struct Passed {
+    processor: Processor,
+    from: usize,
+    again: bool,
+    over: bool,
+}
+
+fn came_to(p: Processor, from: usize, again: bool, over: bool) -> Passed
+    ensures { λ r. ⌜ r .from ≡ from ⌝ }
+{
+    Passed {
+        processor: p,
+        from,
+        again,
+        over,
+    }
+}
+
 // ---- output
 
-// Writes all of it, however little each call takes. A write that fails is reported, and the answer is false.
+// One write. A write that fails is reported, and the answer is false; one that a signal interrupts takes nothing.
+fn is_written(put: isize) -> bool {
+    if put >= 0 {
+        return true;
+    }
+    if os::errno() == EINTR {
+        return true;
+    }
+    os::fail(b"cannot write");
+    false
+}
+
+// Writes all of it, however little each call takes. The answer is false where a write fails.
 fn print(bytes: &[u8]) -> bool {
     let n = bytes.len();
     let mut from: usize = 0;
     let mut turns = TURNS;
-    while (from < n) & (turns > 0) {
+    while from < n {
+        if turns == 0 {
+            return false;
+        }
         let rest = &bytes[from..];
         let put = libc::write(STDOUT_FILENO, rest);
-        if (put < 0) & (os::errno() != EINTR) {
-            os::fail(b"cannot write");
+        if !is_written(put) {
             return false;
         }
         from += io::count(put, rest);
@@ -44,7 +90,7 @@ fn print(bytes: &[u8]) -> bool {
     true
 }
 
-// Says on standard error which refusal stopped the survey, and how many bytes of input it has used.
+// Says which refusal stopped the survey, and after how many bytes of input.
 fn report(number: u8, used: u64) {
     io::write_all(STDERR_FILENO, b"refusal ");
     io::print_decimal(STDERR_FILENO, number as u64);
@@ -55,11 +101,19 @@ fn report(number: u8, used: u64) {
 
 // ---- input
 
-// Moves what stands from a place to the end of the buffer to its start, and answers how many bytes that are.
-fn to_start(input: &mut [u8], from: usize, n: usize) -> usize {
+// The bytes of input used, with n more.
+fn more(used: u64, n: usize) -> u64 {
+    std::num::wrapping_add_u64(used, n as u64)
+}
+
+// Moves the bytes from a place to before another to the start of the buffer, and answers how many they are.
+fn to_start(input: &mut [u8], from: usize, to: usize) -> usize
+    requires { ⌜ (from ≤ to) × (to ≤ length (now input)) ⌝ }
+    ensures { λ r. ⌜ r ≤ length (now (input .entry)) ⌝ }
+{
     let mut i: usize = 0;
     let mut k = from;
-    while k < n {
+    while k < to {
         input[i] = input[k];
         i += 1;
         k += 1;
@@ -67,92 +121,94 @@ fn to_start(input: &mut [u8], from: usize, n: usize) -> usize {
     i
 }
 
-// What is left of the input at its end is no line.
-fn at_end(s: Survey, rest: &[u8], output: &mut [u8]) -> Survey {
-    let p = s.processor;
+// What is left of the input at its end has no newline: it is refused.
+fn last(s: Survey, rest: &[u8], output: &mut [u8]) {
     let n = rest.len();
     if n == 0 {
-        return over(p, s.used);
+        return;
     }
+    let p = s.processor;
     let e = line_step(p, rest, output, 0);
     let how = e.step;
-    let used = add(s.used, n);
-    match how {
-        Step::Stops(number, at) => {
-            if print(&output[..at]) {
-                report(number, used);
-            }
-        }
-        Step::Goes(_) => {}
-        Step::Full => {}
+    let Step::Stops(number, at) = how else {
+        return;
+    };
+    if print(&output[..at]) {
+        report(number, more(s.used, n));
     }
-    over(p, used)
 }
 
-// Carries out the whole lines of the input, and prints what they give.
-fn carried(s: Survey, input: &mut [u8], n: usize, output: &mut [u8]) -> Survey {
+// Carries out lines from a place on until they end or the output is full, and prints what they give.
+fn pass(p: Processor, input: &[u8], from: usize, used: u64, output: &mut [u8]) -> Passed
+    requires { ⌜ from ≤ length (now input) ⌝ }
+    ensures { λ r. ⌜ r .from ≤ length (now (input .entry)) ⌝ }
+{
+    let r = scan_lines(p, input, from, output, 0);
+    let how = r.scan;
+    let at = r.at;
+    let to = r.from;
+    let q = r.processor;
+    if !print(&output[..at]) {
+        return came_to(q, to, false, true);
+    }
+    match how {
+        Scan::Rest => came_to(q, to, false, false),
+        Scan::Full => came_to(q, to, true, false),
+        Scan::Stopped(number) => {
+            report(number, more(used, to));
+            came_to(q, to, false, true)
+        }
+    }
+}
+
+// Carries out the whole lines of the first n bytes of the input. What is left moves to the start of the buffer.
+fn carried(s: Survey, input: &mut [u8], n: usize, output: &mut [u8]) -> Survey
+    requires { ⌜ n ≤ length (now input) ⌝ }
+{
     let mut p = s.processor;
     let mut from: usize = 0;
     let mut turns = TURNS;
     while turns > 0 {
-        let r = scan_lines(p, &input[..n], from, output, 0);
-        let how = r.scan;
-        let at = r.at;
+        let r = pass(p, &input[..n], from, s.used, output);
         p = r.processor;
         from = r.from;
-        if !print(&output[..at]) {
-            return over(p, s.used);
+        if r.over {
+            return ended(p);
         }
-        match how {
-            Scan::Rest => {
-                let kept = to_start(input, from, n);
-                return Survey {
-                    processor: p,
-                    kept,
-                    used: add(s.used, from),
-                    over: false,
-                };
-            }
-            Scan::Stopped(number) => {
-                report(number, add(s.used, from));
-                return over(p, s.used);
-            }
-            Scan::Full => {}
+        if !r.again {
+            let kept = to_start(input, from, n);
+            return Survey {
+                processor: p,
+                kept,
+                used: more(s.used, from),
+                over: false,
+            };
         }
         turns -= 1;
     }
-    over(p, s.used)
+    ended(p)
 }
 
-fn over(p: Processor, used: u64) -> Survey {
-    Survey {
-        processor: p,
-        kept: 0,
-        used,
-        over: true,
-    }
-}
-
-// The bytes of input used, with n more. (Above 2 to the 64 it starts again at 0: it is only reported.)
-fn add(used: u64, n: usize) -> u64 {
-    std::num::wrapping_add_u64(used, n as u64)
-}
-
-// Reads once and carries out what came.
+// Reads once, and carries out what came.
 fn turn(s: Survey, input: &mut [u8], output: &mut [u8]) -> Survey {
     let kept = s.kept;
+    let p = s.processor;
+    if input.len() < kept {
+        return ended(p);
+    }
     let got = libc::read(STDIN_FILENO, &mut input[kept..]);
     if got < 0 {
         if os::errno() == EINTR {
             return s;
         }
         os::fail(b"cannot read");
-        return over(s.processor, s.used);
+        return ended(p);
     }
     if got == 0 {
-        return at_end(s, &input[..kept], output);
+        last(s, &input[..kept], output);
+        return ended(p);
     }
-    let n = kept + got as usize;
+    let n = kept + io::count(got, &input[kept..]);
     carried(s, input, n, output)
 }
 
@@ -164,7 +220,10 @@ fn run(input: &mut [u8], output: &mut [u8]) {
         over: false,
     };
     let mut turns = TURNS;
-    while !s.over & (turns > 0) {
+    while turns > 0 {
+        if s.over {
+            return;
+        }
         s = turn(s, input, output);
         turns -= 1;
     }

@@ -1,0 +1,67 @@
+use mathlib.Core.Path.{_≡_, refl, _∙_}
+use lib.ListN.{length, length-set, getD}
+use Prim.Native.Nat.{_≤_, _-_}
+use borrow.Author.Needs.{needs}
+use native.Mathlib.Omega.{arith}
+use Rattle.survey.proofs.to_start.Statement.{statement}
+use Rattle.survey.proofs.to_start.Tie as tie
+use Rattle.survey.proofs.to_start.Reads as reads
+use Rattle.survey.proofs.to_start.Lts as lts
+
+abbrev Inv-loop : tie.InvT-loop
+Inv-loop input₀ from to i₀ k₀ input i k = (length input ≡ length input₀) × (i ≤ k) × (k ≤ to)
+
+abbrev μ-loop : tie.MeasureT-loop
+μ-loop input₀ from to i₀ k₀ input i k = to - k
+
+-- src/main.rt:96:5
+loop-holds : tie.Need-loop-holds Inv-loop μ-loop
+loop-holds c = (refl, omega arith, omega arith)
+
+-- src/main.rt:97:20
+slice-read-input : tie.Need-slice-read-input Inv-loop μ-loop
+slice-read-input c = omega (arith, c .before .before .loop .inv .0, c .before .before .before .pre)
+
+-- src/main.rt:97:9
+slice-write-input : tie.Need-slice-write-input Inv-loop μ-loop
+slice-write-input c = omega (arith, c .before .before .loop .inv, c .before .before .before .pre)
+
+-- src/main.rt:98:9
+add-i : tie.Need-add-i Inv-loop μ-loop
+add-i c = omega arith
+
+-- src/main.rt:99:9
+add-k : tie.Need-add-k Inv-loop μ-loop
+add-k c = omega arith
+
+-- src/main.rt:96:5
+loop-less : tie.Need-loop-less Inv-loop μ-loop
+loop-less c = omega arith
+
+-- src/main.rt:96:5
+loop-again : tie.Need-loop-again Inv-loop μ-loop
+loop-again c = (length-set (c .before .before .loop .input) (c .before .before .loop .i) (getD (c .before .before .loop .input) (c .before .before .loop .k) 0) ∙ c .before .before .loop .inv .0, omega (arith, c .before .before .loop .inv), omega (arith, c .before .before .loop .inv))
+
+-- src/main.rt:90:1
+same-length : tie.Need-same-length Inv-loop μ-loop
+same-length c = c .before .loop .inv .0
+
+-- src/main.rt:90:1
+returns : tie.Need-returns Inv-loop μ-loop
+returns c = omega (arith, c .before .loop .inv, c .before .before .pre)
+
+pub to-start-spec : {M : Type 1} → statement M
+to-start-spec =
+    tie.close
+    (tie.spec
+    Inv-loop
+    μ-loop
+    loop-holds
+    slice-read-input
+    slice-write-input
+    add-i
+    add-k
+    loop-less
+    loop-again
+    same-length
+    returns)
