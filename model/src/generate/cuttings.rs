@@ -21,6 +21,11 @@ pub enum Cutting {
     Disturbed,
 }
 
+/// Lengths of pieces around those of blocks, rooms, kept values and the delay of a reply.
+const TELLING: [usize; 18] = [
+    63, 64, 65, 127, 128, 129, 205, 206, 207, 255, 256, 257, 384, 385, 386, 412, 413, 4_095,
+];
+
 pub const CUTTINGS: [Cutting; 5] = [
     Cutting::Whole,
     Cutting::Mixed,
@@ -36,6 +41,7 @@ impl Cutting {
             Cutting::Whole => PIECE_TICKS,
             Cutting::Small => random.within(1..=16) as usize,
             Cutting::Tiny => random.within(1..=3) as usize,
+            Cutting::Mixed | Cutting::Disturbed if random.chance(1, 4) => random.pick(&TELLING),
             Cutting::Mixed | Cutting::Disturbed => piece_ticks(random),
         }
     }
@@ -51,7 +57,8 @@ impl Cutting {
     }
 }
 
-/// Open, the pieces of the trace, close; refused calls among them, before and after.
+/// Open, the pieces of the trace, close; refused calls among them, before and after. At times the
+/// sweep is opened once more when some of the trace was taken.
 pub fn cutting(
     how: Cutting,
     trace: &Trace,
@@ -64,14 +71,36 @@ pub fn cutting(
     while how.is_disturbed(random) {
         calls.push(without_sweep(random));
     }
+    if how.is_disturbed(random) {
+        calls.push(Call::Open { mode, azimuth });
+        let some = random.place(ticks + 1);
+        take_up_to(some, how, trace, random, &mut calls);
+    }
     calls.push(Call::Open { mode, azimuth });
+    take_up_to(ticks, how, trace, random, &mut calls);
+    let lent = enough(CLOSE_BYTES, random);
+    calls.push(Call::Close { lent });
+    while how.is_disturbed(random) {
+        calls.push(without_sweep(random));
+    }
+    calls
+}
+
+/// The takes of the first ticks of the trace, with refused calls among them.
+fn take_up_to(
+    ticks: usize,
+    how: Cutting,
+    trace: &Trace,
+    random: &mut Random,
+    calls: &mut Vec<Call>,
+) {
     let mut taken = 0;
     loop {
         while how.is_disturbed(random) {
             calls.push(refused(taken, random));
         }
         if taken == ticks {
-            break;
+            return;
         }
         let end = (taken + how.ticks(random)).min(ticks);
         calls.push(Call::Take {
@@ -81,12 +110,6 @@ pub fn cutting(
         });
         taken = end;
     }
-    let lent = enough(CLOSE_BYTES, random);
-    calls.push(Call::Close { lent });
-    while how.is_disturbed(random) {
-        calls.push(without_sweep(random));
-    }
-    calls
 }
 
 /// A call that is refused while no sweep is open.

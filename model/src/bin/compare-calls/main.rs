@@ -2,6 +2,7 @@
 
 mod form;
 mod lists;
+mod malformed;
 mod options;
 mod program;
 mod session;
@@ -78,10 +79,14 @@ fn run(until: &Until, seed: u64, path: &Path) -> Result<bool, String> {
         println!("seed {seed}, after {} calls: {wrong}", tally.calls);
         failed += 1;
     }
+    let (turned_down, not_turned_down) = malformed::check(path)?;
     let (met, missed) = tally.report();
+    println!("malformed inputs turned down: {turned_down}");
     println!("seed {seed}, {:.1} s", started.elapsed().as_secs_f64());
-    println!("{} passed, {} failed", tally.lists + met, failed + missed);
-    Ok(failed + missed == 0)
+    let passed = tally.lists + turned_down + met;
+    failed += not_turned_down + missed;
+    println!("{passed} passed, {failed} failed");
+    Ok(failed == 0)
 }
 
 /// Run one list after the other, and count those without a difference and those with one.

@@ -59,8 +59,8 @@ impl Session {
             Some(machine) => self.carry_out_on(machine, &placed.call, &mut buffer),
             None => placed.call.carry_out(&mut self.model, &mut buffer),
         };
-        self.follow(&placed.call, &result);
         tally.add(&placed.call, &result, self.values.len());
+        self.follow(&placed.call, &result);
         same_told(&told(&result), &outcome.told())?;
         same_buffer(&buffer, outcome.buffer())?;
         self.check_processor(&result, outcome)?;
@@ -110,7 +110,8 @@ impl Session {
                 self.values.clear();
             }
             (Call::Take { values, .. }, Ok(_)) => self.values.extend_from_slice(values),
-            _ => {}
+            (Call::Close { .. }, Ok(_)) => self.values.clear(),
+            (_, Err(_)) => {}
         }
     }
 
@@ -219,5 +220,34 @@ fn same_processor(when: &str, expected: &[u8], found: &[u8]) -> Result<(), Strin
             "the processor is not that {when}: {} differs",
             field_at(at)
         )),
+    }
+}
+
+#[cfg(test)]
+mod tests {
+    use super::Session;
+    use crate::lists::list;
+
+    #[test]
+    fn on_a_known_machine_calls_give_what_they_give_take_by_take() {
+        let is_short = |number: &u64| list(7, *number).calls.len() < 2_500;
+        let mut takes = 0;
+        for number in (0..200).filter(is_short) {
+            let list = list(7, number);
+            let Some(machine) = &list.whole else {
+                continue;
+            };
+            let (mut known, mut plain) = (Session::new(&[]), Session::new(&[]));
+            for placed in &list.calls {
+                let mut buffers = [(); 2].map(|()| vec![placed.fill; placed.call.lent()]);
+                let result = known.carry_out_on(machine, &placed.call, &mut buffers[0]);
+                known.follow(&placed.call, &result);
+                let expected = placed.call.carry_out(&mut plain.model, &mut buffers[1]);
+                assert_eq!(result, expected);
+                assert!(buffers[0] == buffers[1], "list {number}: buffers differ");
+                takes += usize::from(result.is_ok());
+            }
+        }
+        assert!(takes > 10_000, "only {takes} calls were compared");
     }
 }

@@ -16,6 +16,7 @@ pub struct Tally {
     /// Processors that were compared with another cutting's after the same ticks.
     pub compared: u64,
     refusals: [u64; 8],
+    reopened: u64,
     full_pieces: u64,
     full_sweeps: u64,
     eights: u64,
@@ -24,12 +25,12 @@ pub struct Tally {
 }
 
 impl Tally {
-    /// Count a call with what the model answers, after which the sweep has so many ticks.
+    /// Count a call with what the model answers. So many ticks of an open sweep came before it.
     pub fn add(&mut self, call: &Call, result: &Result<Answer, Refusal>, taken: usize) {
         self.calls += 1;
         match result {
             Err(refusal) => self.refusals[usize::from(refusal.number()) - 1] += 1,
-            Ok(Answer::Opened) => {}
+            Ok(Answer::Opened) => self.reopened += u64::from(taken > 0),
             Ok(Answer::Taken { written }) => {
                 self.records += *written as u64;
                 let Call::Take { flags, lent, .. } = call else {
@@ -55,6 +56,7 @@ impl Tally {
             .map(|(place, count)| (format!("refusal {}", place + 1), *count))
             .collect();
         for (name, count) in [
+            ("openings after some ticks of a sweep", self.reopened),
             ("pieces of 4096 ticks", self.full_pieces),
             ("closed sweeps of 32768 ticks", self.full_sweeps),
             ("closes with eight records", self.eights),
