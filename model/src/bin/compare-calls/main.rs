@@ -45,7 +45,7 @@ fn main() -> ExitCode {
             until,
             seed,
             program,
-        } => run(&until, seed, &program),
+        } => run(&until, seed, &program).inspect_err(|_| println!("0 passed, 1 failed")),
     };
     match done {
         Ok(true) => ExitCode::SUCCESS,
@@ -98,11 +98,10 @@ fn run_lists(
     failed: &mut u64,
 ) -> Result<(), String> {
     let started = Instant::now();
-    let mut session = Session::new(&idle(program)?);
-    let mut number = if let Until::OnlyList(only) = until {
-        *only
-    } else {
-        0
+    let mut session = first_call(program, tally)?;
+    let mut number = match until {
+        Until::OnlyList(only) => *only,
+        Until::Time(_) | Until::Calls(_) => 0,
     };
     loop {
         match run_list(&list(seed, number), program, &mut session, tally)? {
@@ -124,17 +123,20 @@ fn run_lists(
     }
 }
 
-/// The bytes of the program's processor before the first opening, by a close that is refused.
-fn idle(program: &mut Program) -> Result<Vec<u8>, String> {
+/// A close before the first opening. It is refused, and shows the idle processor.
+fn first_call(program: &mut Program, tally: &mut Tally) -> Result<Session, String> {
     let first = Placed {
         call: Call::Close { lent: CLOSE_BYTES },
         shown: true,
         around: 0xff,
-        fill: 0,
+        fill: 0xa5,
         starts: (0, 0),
     };
     program.send(first.bytes())?;
-    Ok(program.outcome(CLOSE_BYTES)?.processor().to_vec())
+    let outcome = program.outcome(CLOSE_BYTES)?;
+    let mut session = Session::new(outcome.processor());
+    session.check(&first, None, &outcome, tally)?;
+    Ok(session)
 }
 
 /// Run a list. The number of its first call with a difference, counted from 1, and what differs.

@@ -34,7 +34,7 @@ pub struct Session {
 }
 
 impl Session {
-    /// The session before the first opening, where the program's processor has these bytes.
+    /// The session before the first opening, with the bytes of the program's processor there.
     pub fn new(idle: &[u8]) -> Session {
         Session {
             model: Processor::Idle,
@@ -86,19 +86,14 @@ impl Session {
             return call.carry_out(&mut self.model, buffer);
         };
         self.model.join(flags, values, buffer.len())?;
-        let before = self.values.len() as i64;
-        let now = before + flags.len() as i64;
-        let due = |q| before < due_at(q) && due_at(q) <= now;
-        let first = machine
-            .replies
-            .partition_point(|reply| due_at(reply.q) <= before);
-        let replies = machine.replies[first..].iter();
-        let mut written = 0;
-        for reply in replies.take_while(|reply| due(reply.q)) {
-            let place = written * RECORD_BYTES;
-            buffer[place..place + RECORD_BYTES].copy_from_slice(&record(reply));
-            written += 1;
+        let replies = &machine.replies;
+        let due_by = |ticks| replies.partition_point(|reply| due_at(reply.q) <= ticks as i64);
+        let before = self.values.len();
+        let due = &replies[due_by(before)..due_by(before + flags.len())];
+        for (reply, place) in due.iter().zip(buffer.chunks_mut(RECORD_BYTES)) {
+            place.copy_from_slice(&record(reply));
         }
+        let written = due.len();
         Ok(Answer::Taken { written })
     }
 
