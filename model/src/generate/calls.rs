@@ -103,7 +103,7 @@ fn wild_opening(random: &mut Random) -> Call {
 }
 
 /// The length of a piece: at times none, at times at the limit.
-fn piece_ticks(random: &mut Random) -> usize {
+pub(super) fn piece_ticks(random: &mut Random) -> usize {
     match random.within(1..=10) {
         1 => 0,
         2..=4 => random.within(1..=64) as usize,

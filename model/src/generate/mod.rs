@@ -3,6 +3,7 @@
 pub mod aircraft;
 pub mod calls;
 pub mod canvas;
+pub mod cuttings;
 pub mod damage;
 pub mod input;
 pub mod noise;
