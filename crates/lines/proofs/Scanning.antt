@@ -335,7 +335,7 @@ module _ (p : Processor) (input : List ℕ) (from at : ℕ) (b₀ : List ℕ) wh
 
   module _ (q : Processor) (i place : ℕ) (b : List ℕ) (h : Scanning p input from at b₀ q i place b) where
     pub scanned-rest : LinePast input i → ScanPost p input from at b₀ (record { scan = Rest; processor = q; from = i; at = place }) b
-    scanned-rest e = record { reach = h .reach; inside = h .inside; because = λ σ m. e .short; scans = h .scans }
+    scanned-rest e = record { reach = h .reach; inside = h .inside; because = λ σ m. e; scans = h .scans }
 
     module _ (to : ℕ) (line : LineEnd input i to) (s : Stepped) (b′ : List ℕ) (step : StepPost q (part input i to) place b s b′) where
       -- the line goes on, with what it printed behind what was
@@ -437,3 +437,19 @@ end-at input from r to e h = subst (EndPost input from) e h
 
 pub end-past : (input : List ℕ) (from : ℕ) (r : End) → r ≡ Past → EndPost input from r → LinePast input from
 end-past input from r e h = subst (EndPost input from) e h
+
+-- ---- the end of the input
+
+lines-rest : (l : List ℕ) → Plain l → 0 < length l → linesIn l ≡ l ∷ []
+unfolding linesIn
+lines-rest [] h s = absurd (omega arith)
+lines-rest (c ∷ []) h s = rw (ne-eqb c 10 (h .0)) refl
+lines-rest (c ∷ d ∷ l) h s = rw (ne-eqb c 10 (h .0)) (ap (onto c) (lines-rest (d ∷ l) (h .1) (omega arith)))
+
+-- bytes left without a newline are a last line, refused with 9
+pub survey-rest : (l : List ℕ) (σ : Sweep) → LinePast l 0 → 0 < length l → (surveyed (linesIn l) σ ≡ printed (lineAt σ l)) × (lineAt σ l ≡ stops 9)
+unfolding surveyed
+survey-rest l σ h s =
+    let p : Plain l = plain l (λ k q e. h .before .none k (omega arith) q e) in
+    let n = nine σ l (no-newline l (plain-last l p s)) in
+    (ap (λ (ls : List (List ℕ)). surveyed ls σ) (lines-rest l p s) ∙ ap (λ (o : Outcome). further o (surveyed [])) n ∙ ap printed (sym n), n)

@@ -128,9 +128,9 @@ pub record Scans (σ : Sweep) (input : List ℕ) (from at : ℕ) (b : List ℕ) 
   pub output : b′ ≡ over-at new at b
   pub same : (R : List ℕ) → surveyed (linesIn (drop from input ++ R)) σ ≡ new ++ afterwards (r .scan) (linesIn (drop (r .from) input ++ R)) next
 
--- why it came to an end: the rest is shorter than a line may be, or the output has no room for what a line may print
+-- why it came to an end: the rest has no newline and is shorter than a line may be, or the output has no room for what a line may print
 abbrev pub Because : Scan → List ℕ → ℕ → ℕ → List ℕ → Type 0
-Because Rest input from at b = length input < from + 259
+Because Rest input from at b = LinePast input from
 Because NoRoom input from at b = length b < at + 339
 Because (Stopped k) input from at b = Unit {0}
 
