@@ -1,5 +1,6 @@
 //! The command line: what is asked for, or what is wrong with it.
 
+use model::compare::Until;
 use model::generate::{Kind, KINDS};
 use model::sweep::SWEEP_TICKS;
 use std::collections::BTreeMap;
@@ -26,6 +27,15 @@ pub enum Command {
         seed: u64,
         sweeps: u64,
     },
+    Compare {
+        program: String,
+        seed: u64,
+        until: Until,
+    },
+    Input {
+        seed: u64,
+        number: u64,
+    },
 }
 
 /// The help text.
@@ -38,7 +48,8 @@ const HELP: &str = "\
 The separate model of the ATCRBS reply processor.
 
   model survey [FILE]
-      Read frames from FILE or standard input and print what the survey program prints.
+      Read frames from FILE or standard input and print what the survey program prints: its
+      lines, and at a refusal 'refusal K at byte B' on standard error.
   model generate --seed S [--kind K] [--sweeps N] [--damage]
       Print the frames of N sweeps (1 if not given); --damage damages the input.
   model trace --seed S [--kind K] --ticks N
@@ -49,19 +60,24 @@ The separate model of the ATCRBS reply processor.
         totals FOUND REPLIES SIDELOBE GARBLED LOST PHANTOMS
   model stats --seed S --sweeps N
       Print how often each outcome occurs over N mixed sweeps.
+  model compare --program PATH --seed S (--sweeps N | --seconds N)
+      Compare the survey program with the model on at least N sweeps, or for N seconds, and print
+      what occurred. A difference ends it; the input is then kept in a file.
+  model input --seed S --number N
+      Print input N of the comparison with this seed.
   model --help
       Print this text.
 
 Kinds: KINDS
-The same seed always gives the same output. Exit status: 0 done, 1 a file cannot be read or the
-output cannot be written, 2 wrong usage.
+The same seed always gives the same output. Exit status: 0 done, 1 a file cannot be read, the
+output cannot be written or a comparison failed, 2 wrong usage.
 ";
 
 /// The command of these arguments, or what is wrong with them.
 pub fn parse(arguments: &[String]) -> Result<Command, String> {
     let (name, rest) = arguments
         .split_first()
-        .ok_or("a command is missing: survey, generate, trace or stats")?;
+        .ok_or("a command is missing: survey, generate, trace, stats, compare or input")?;
     if arguments.iter().any(|argument| argument == "--help") {
         return Ok(Command::Help);
     }
@@ -70,6 +86,8 @@ pub fn parse(arguments: &[String]) -> Result<Command, String> {
         "generate" => generate(rest),
         "trace" => trace(rest),
         "stats" => stats(rest),
+        "compare" => compare(rest),
+        "input" => input(rest),
         _ => Err(format!("unknown command '{name}'")),
     }
 }
@@ -116,6 +134,28 @@ fn stats(arguments: &[String]) -> Result<Command, String> {
     })
 }
 
+fn compare(arguments: &[String]) -> Result<Command, String> {
+    let options = Options::read(arguments, &["--program", "--seed", "--sweeps", "--seconds"])?;
+    let until = match (options.number("--sweeps")?, options.number("--seconds")?) {
+        (Some(sweeps), None) => Until::Sweeps(sweeps),
+        (None, Some(seconds)) => Until::Seconds(seconds),
+        _ => return Err("compare needs --sweeps or --seconds, and not both".to_string()),
+    };
+    Ok(Command::Compare {
+        program: options.text("--program")?,
+        seed: options.needed("--seed")?,
+        until,
+    })
+}
+
+fn input(arguments: &[String]) -> Result<Command, String> {
+    let options = Options::read(arguments, &["--seed", "--number"])?;
+    Ok(Command::Input {
+        seed: options.needed("--seed")?,
+        number: options.needed("--number")?,
+    })
+}
+
 /// The options that were given, each with its value; --damage has none.
 struct Options(BTreeMap<String, String>);
 
@@ -142,6 +182,11 @@ impl Options {
 
     fn given(&self, option: &str) -> bool {
         self.0.contains_key(option)
+    }
+
+    fn text(&self, option: &str) -> Result<String, String> {
+        let value = self.0.get(option);
+        value.cloned().ok_or(format!("{option} is missing"))
     }
 
     fn number(&self, option: &str) -> Result<Option<u64>, String> {

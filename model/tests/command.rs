@@ -35,6 +35,15 @@ fn wrong_usage_is_named_with_status_2() {
         (vec!["trace", "--seed", "1"], "--ticks is missing"),
         (vec!["trace", "--seed", "1", "--ticks", "32769"], "32769"),
         (vec!["stats", "--seed", "1"], "--sweeps is missing"),
+        (
+            vec!["compare", "--seed", "1", "--sweeps", "1"],
+            "--program is missing",
+        ),
+        (
+            vec!["compare", "--program", "p", "--seed", "1"],
+            "--sweeps or --seconds",
+        ),
+        (vec!["input", "--seed", "1"], "--number is missing"),
     ] {
         let output = model(&arguments, b"");
         assert_eq!(output.status.code(), Some(2), "{arguments:?}");
@@ -54,7 +63,7 @@ fn a_file_that_cannot_be_read_is_named_with_status_1() {
 fn help_lists_the_commands_and_kinds() {
     let output = model(&["--help"], b"");
     assert_eq!(output.status.code(), Some(0));
-    for word in ["survey", "generate", "trace", "stats", "mixed", "bytes"] {
+    for word in ["survey", "generate", "trace", "stats", "compare", "mixed"] {
         assert!(text(&output.stdout).contains(word), "{word}");
     }
 }
@@ -65,6 +74,7 @@ fn survey_prints_a_refusal_with_status_0() {
     assert_eq!(output.status.code(), Some(0));
     let expected = "12000000000000000000000000\n1f03\n";
     assert_eq!(text(&output.stdout), expected);
+    assert_eq!(text(&output.stderr), "refusal 3 at byte 15\n");
 }
 
 #[test]
