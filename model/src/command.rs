@@ -1,6 +1,7 @@
 //! The command line: what is asked for, or what is wrong with it.
 
 use model::compare::Until;
+use model::generate::recording::{Scene, SCENES};
 use model::generate::{Kind, KINDS};
 use model::sweep::SWEEP_TICKS;
 use std::collections::BTreeMap;
@@ -16,6 +17,11 @@ pub enum Command {
         seed: u64,
         kind: Kind,
         sweeps: u64,
+        damage: bool,
+    },
+    Record {
+        seed: u64,
+        scene: Scene,
         damage: bool,
     },
     Trace {
@@ -40,8 +46,14 @@ pub enum Command {
 
 /// The help text.
 pub fn help() -> String {
-    let kinds: Vec<&str> = KINDS.iter().map(|(name, _)| *name).collect();
-    HELP.replace("KINDS", &kinds.join(" "))
+    HELP.replace("KINDS", &names(&KINDS))
+        .replace("SCENES", &names(&SCENES))
+}
+
+/// The names in a table, in a line.
+fn names<T>(table: &[(&str, T)]) -> String {
+    let names: Vec<&str> = table.iter().map(|(name, _)| *name).collect();
+    names.join(" ")
 }
 
 const HELP: &str = "\
@@ -52,6 +64,8 @@ The separate model of the ATCRBS reply processor.
       lines, and at a refusal 'refusal K at byte B' on standard error.
   model generate --seed S [--kind K] [--sweeps N] [--damage]
       Print the frames of N sweeps (1 if not given); --damage damages the input.
+  model record --seed S --scene C [--damage]
+      Print the frames of a recording: sweeps of one antenna over the same aircraft.
   model trace --seed S [--kind K] --ticks N
       Print one trace of 0 to 32768 ticks and what the rules give for it, as lines of words:
         flags HEX        values HEX        (without HEX for 0 ticks)
@@ -69,6 +83,7 @@ The separate model of the ATCRBS reply processor.
       Print this text.
 
 Kinds: KINDS
+Scenes: SCENES
 The same seed always gives the same output. Exit status: 0 done, 1 a file cannot be read, the
 output cannot be written or a comparison failed, 2 wrong usage.
 ";
@@ -77,13 +92,14 @@ output cannot be written or a comparison failed, 2 wrong usage.
 pub fn parse(arguments: &[String]) -> Result<Command, String> {
     let (name, rest) = arguments
         .split_first()
-        .ok_or("a command is missing: survey, generate, trace, stats, compare or input")?;
+        .ok_or("a command is missing: survey, generate, record, trace, stats, compare or input")?;
     if arguments.iter().any(|argument| argument == "--help") {
         return Ok(Command::Help);
     }
     match name.as_str() {
         "survey" => survey(rest),
         "generate" => generate(rest),
+        "record" => record(rest),
         "trace" => trace(rest),
         "stats" => stats(rest),
         "compare" => compare(rest),
@@ -109,6 +125,16 @@ fn generate(arguments: &[String]) -> Result<Command, String> {
         seed: options.needed("--seed")?,
         kind: options.kind()?,
         sweeps: options.number("--sweeps")?.unwrap_or(1),
+        damage: options.given("--damage"),
+    })
+}
+
+fn record(arguments: &[String]) -> Result<Command, String> {
+    let options = Options::read(arguments, &["--seed", "--scene", "--damage"])?;
+    let name = options.text("--scene")?;
+    Ok(Command::Record {
+        seed: options.needed("--seed")?,
+        scene: named(&SCENES, "scene", &name)?,
         damage: options.given("--damage"),
     })
 }
@@ -207,11 +233,16 @@ impl Options {
     }
 
     fn kind(&self) -> Result<Kind, String> {
-        let Some(value) = self.0.get("--kind") else {
-            return Ok(Kind::Mixed);
-        };
-        let known = KINDS.iter().find(|(name, _)| name == value);
-        let (_, kind) = known.ok_or(format!("unknown kind '{value}'"))?;
-        Ok(*kind)
+        match self.0.get("--kind") {
+            Some(value) => named(&KINDS, "kind", value),
+            None => Ok(Kind::Mixed),
+        }
     }
+}
+
+/// What a table has under this name.
+fn named<T: Copy>(table: &[(&str, T)], what: &str, name: &str) -> Result<T, String> {
+    let known = table.iter().find(|(other, _)| *other == name);
+    let (_, found) = known.ok_or(format!("unknown {what} '{name}'"))?;
+    Ok(*found)
 }

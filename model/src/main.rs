@@ -6,7 +6,8 @@ use command::Command;
 use model::compare::{compare, inputs::Input, Until};
 use model::edges::{self, edges, Edge};
 use model::frames::hexadecimal;
-use model::generate::{self, damage::damaged, input::input, length, random::Random, Kind};
+use model::generate::recording::recording;
+use model::generate::{self, damage::damaged, input::input, length, random::Random};
 use model::machine::machine_on;
 use model::records::record;
 use model::samples::Trace;
@@ -44,7 +45,20 @@ fn carry_out(command: &Command) -> Result<bool, String> {
             kind,
             sweeps,
             damage,
-        } => print(&generated(seed, kind, sweeps, damage))?,
+        } => {
+            let mut random = Random::new(seed);
+            let whole = input(kind, sweeps, length, &mut random);
+            print_frames(whole, damage, random)?;
+        }
+        Command::Record {
+            seed,
+            scene,
+            damage,
+        } => {
+            let mut random = Random::new(seed);
+            let whole = recording(&scene, &mut random);
+            print_frames(whole, damage, random)?;
+        }
         Command::Trace { seed, kind, ticks } => {
             let trace = generate::trace(kind, ticks, &mut Random::new(seed));
             print(trace_lines(&trace).as_bytes())?;
@@ -71,14 +85,12 @@ fn print_survey(input: &[u8]) -> Result<(), String> {
     Ok(())
 }
 
-/// The frames of some sweeps.
-fn generated(seed: u64, kind: Kind, sweeps: u64, damage: bool) -> Vec<u8> {
-    let mut random = Random::new(seed);
-    let whole = input(kind, sweeps, length, &mut random);
+/// Print the frames, or damage and print them.
+fn print_frames(whole: Vec<u8>, damage: bool, mut random: Random) -> Result<(), String> {
     if damage {
-        damaged(&whole, &mut random)
+        print(&damaged(&whole, &mut random))
     } else {
-        whole
+        print(&whole)
     }
 }
 

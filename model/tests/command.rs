@@ -32,6 +32,8 @@ fn wrong_usage_is_named_with_status_2() {
         (vec!["generate", "--seed", "x"], "'x'"),
         (vec!["generate", "--seed", "1", "--kind", "loud"], "'loud'"),
         (vec!["generate", "--seed", "1", "--seed", "2"], "twice"),
+        (vec!["record", "--seed", "1"], "--scene is missing"),
+        (vec!["record", "--seed", "1", "--scene", "sea"], "'sea'"),
         (vec!["trace", "--seed", "1"], "--ticks is missing"),
         (vec!["trace", "--seed", "1", "--ticks", "32769"], "32769"),
         (vec!["stats", "--seed", "1"], "--sweeps is missing"),
@@ -87,6 +89,15 @@ fn generated_frames_are_surveyed() {
         .any(|line| line.starts_with("12")));
     let kind = ["generate", "--seed", "3", "--kind", "quiet", "--damage"];
     assert_ne!(model(&kind, b"").stdout, model(&kind[..5], b"").stdout);
+}
+
+#[test]
+fn a_recording_is_printed_whole_or_damaged() {
+    let scene = ["record", "--seed", "1", "--scene", "quiet", "--damage"];
+    let (damaged, whole) = (model(&scene, b""), model(&scene[..5], b""));
+    assert!(text(&whole.stdout).starts_with("0101"));
+    assert!(text(&whole.stdout).ends_with("\n03\n"));
+    assert_ne!(whole.stdout, damaged.stdout);
 }
 
 #[test]
