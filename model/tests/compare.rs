@@ -7,6 +7,7 @@ use model::survey::surveyed;
 use std::fs::{self, Permissions};
 use std::os::unix::fs::PermissionsExt;
 use std::path::PathBuf;
+use std::process::Command;
 
 /// A program in shell, where $MODEL surveys as the model does.
 fn program(name: &str, script: &str) -> PathBuf {
@@ -47,6 +48,21 @@ fn a_program_that_surveys_as_the_model_does_agrees() {
     assert!(report.occurrences.sweeps() >= 700);
     let last = format!("{} passed, 0 failed\n", report.passed);
     assert!(report.lines().ends_with(&last));
+}
+
+#[test]
+fn the_command_fails_if_the_comparison_does() {
+    for (name, script, status) in [("well", "exec \"$MODEL\" survey", 0), ("ill", "exit 3", 1)] {
+        let run = Command::new(env!("CARGO_BIN_EXE_model"))
+            .args(["compare", "--seed", "10", "--sweeps", "1", "--program"])
+            .arg(program(name, script))
+            .env("TMPDIR", env!("CARGO_TARGET_TMPDIR"))
+            .output()
+            .expect("the model starts");
+        assert_eq!(run.status.code(), Some(status), "{name}");
+        let last = format!(" passed, {status} failed\n");
+        assert!(String::from_utf8_lossy(&run.stdout).ends_with(&last));
+    }
 }
 
 #[test]
@@ -94,7 +110,7 @@ fn what_never_occurred_is_named() {
         "military",
         "refusal 6",
         "refusal 9, odd",
-        "sweeps not closed",
+        "openings during a sweep",
     ] {
         assert!(missing.iter().any(|other| other == name), "{name}");
     }

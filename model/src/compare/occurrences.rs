@@ -93,27 +93,32 @@ impl Occurrences {
         self.statistics.add("inputs", 1);
         self.statistics.add("bytes in", input.frames.len());
         self.statistics.add("lines out", printed.len());
-        self.add_sweeps(input, surveyed, &printed);
+        self.add_sweeps(input, surveyed.refused);
         self.add_replies(&printed);
         self.add_totals(&printed);
         self.add_refusal(input, surveyed.refused);
         self.add_straddled(input);
     }
 
-    fn add_sweeps(&mut self, input: &Input, surveyed: &Surveyed, printed: &[&str]) {
-        let accepted = match surveyed.refused {
+    fn add_sweeps(&mut self, input: &Input, refused: Option<Refused>) {
+        let accepted = match refused {
             Some(refused) => &input.frames[..refused_start(&input.frames, refused)],
             None => &input.frames,
         };
-        let opened = lines(accepted)
-            .filter(|line| line.starts_with(b"01"))
-            .count();
-        let closed = of_kind(printed, "12").count();
+        let opens: Vec<bool> = lines(accepted)
+            .filter(|line| !line.starts_with(b"02"))
+            .map(|line| line.starts_with(b"01"))
+            .collect();
+        let opened = opens.iter().filter(|&&open| open).count();
+        let afresh = opens.windows(2).filter(|pair| pair[0] && pair[1]).count();
+        let ended = refused.is_none() && opens.last() == Some(&true);
         self.sweeps += opened as u64;
+        self.statistics.add("sweeps", opened);
+        self.statistics.add("openings during a sweep", afresh);
+        self.statistics
+            .add("inputs that end during a sweep", usize::from(ended));
         let empty = usize::from(input.frames.is_empty());
         self.statistics.add("inputs without a line", empty);
-        self.statistics.add("sweeps", opened);
-        self.statistics.add("sweeps not closed", opened - closed);
     }
 
     fn add_replies(&mut self, printed: &[&str]) {
