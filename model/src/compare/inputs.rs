@@ -67,14 +67,17 @@ impl Input {
     }
 }
 
-/// Most inputs are damaged and small; of twenty, one is whole and has most of the sweeps.
+/// Most inputs are damaged and small; of twenty, one is whole and has most of the sweeps. The
+/// largest comes once.
 fn shape(number: u64) -> Shape {
-    match (number, number % 100, number % 20) {
-        (_, 0, _) => Shape::Empty,
-        (_, 1, _) => Shape::Endless,
-        (2, _, _) => Shape::Straddling,
-        (_, _, 3) => Shape::Whole,
-        (_, _, 4) => Shape::Overfull,
+    if number == 2 {
+        return Shape::Straddling;
+    }
+    match number % 100 {
+        0 => Shape::Empty,
+        1 => Shape::Endless,
+        place if place % 20 == 3 => Shape::Whole,
+        place if place % 20 == 4 => Shape::Overfull,
         _ => Shape::Damaged,
     }
 }

@@ -31,7 +31,7 @@ const TOTALS: [&str; 6] = [
     "phantoms",
 ];
 
-/// Something that a printed record may say of its reply: flags, N and code are given.
+/// Something that a printed record may say, by its flags, N and code.
 type Property = fn(u64, u64, u64) -> bool;
 
 const PROPERTIES: [(&str, Property); 6] = [
@@ -43,7 +43,7 @@ const PROPERTIES: [(&str, Property); 6] = [
     ("SPI", |_, _, code| code & 0x4000 != 0),
 ];
 
-/// Something that a line refused with 9 may be, without its newline.
+/// Something that a line refused with 9 may be, up to the byte that made it certain.
 type Fault = fn(&[u8]) -> bool;
 
 const FAULTS: [(&str, Fault); 5] = [
