@@ -1,5 +1,7 @@
 //! The command line: what is asked for, or what is wrong with it.
 
+use model::compare::Until;
+use model::generate::recording::{Scene, SCENES};
 use model::generate::{Kind, KINDS};
 use model::sweep::SWEEP_TICKS;
 use std::collections::BTreeMap;
@@ -17,6 +19,11 @@ pub enum Command {
         sweeps: u64,
         damage: bool,
     },
+    Record {
+        seed: u64,
+        scene: Scene,
+        damage: bool,
+    },
     Trace {
         seed: u64,
         kind: Kind,
@@ -26,21 +33,39 @@ pub enum Command {
         seed: u64,
         sweeps: u64,
     },
+    Compare {
+        program: String,
+        seed: u64,
+        until: Until,
+    },
+    Input {
+        seed: u64,
+        number: u64,
+    },
 }
 
 /// The help text.
 pub fn help() -> String {
-    let kinds: Vec<&str> = KINDS.iter().map(|(name, _)| *name).collect();
-    HELP.replace("KINDS", &kinds.join(" "))
+    HELP.replace("KINDS", &names(&KINDS))
+        .replace("SCENES", &names(&SCENES))
+}
+
+/// The names in a table, in a line.
+fn names<T>(table: &[(&str, T)]) -> String {
+    let names: Vec<&str> = table.iter().map(|(name, _)| *name).collect();
+    names.join(" ")
 }
 
 const HELP: &str = "\
 The separate model of the ATCRBS reply processor.
 
   model survey [FILE]
-      Read frames from FILE or standard input and print what the survey program prints.
+      Read frames from FILE or standard input and print what the survey program prints: its
+      lines, and at a refusal 'refusal K at byte B' on standard error.
   model generate --seed S [--kind K] [--sweeps N] [--damage]
       Print the frames of N sweeps (1 if not given); --damage damages the input.
+  model record --seed S --scene C [--damage]
+      Print the frames of a recording: sweeps of one antenna over the same aircraft.
   model trace --seed S [--kind K] --ticks N
       Print one trace of 0 to 32768 ticks and what the rules give for it, as lines of words:
         flags HEX        values HEX        (without HEX for 0 ticks)
@@ -49,27 +74,36 @@ The separate model of the ATCRBS reply processor.
         totals FOUND REPLIES SIDELOBE GARBLED LOST PHANTOMS
   model stats --seed S --sweeps N
       Print how often each outcome occurs over N mixed sweeps.
+  model compare --program PATH --seed S (--sweeps N | --seconds N)
+      Compare the survey program with the model on at least N sweeps, or for N seconds, and print
+      what occurred. A difference ends it; the input is then kept in a file.
+  model input --seed S --number N
+      Print input N of the comparison with this seed.
   model --help
       Print this text.
 
 Kinds: KINDS
-The same seed always gives the same output. Exit status: 0 done, 1 a file cannot be read or the
-output cannot be written, 2 wrong usage.
+Scenes: SCENES
+The same seed always gives the same output. Exit status: 0 done, 1 a file cannot be read, the
+output cannot be written or a comparison failed, 2 wrong usage.
 ";
 
 /// The command of these arguments, or what is wrong with them.
 pub fn parse(arguments: &[String]) -> Result<Command, String> {
     let (name, rest) = arguments
         .split_first()
-        .ok_or("a command is missing: survey, generate, trace or stats")?;
+        .ok_or("a command is missing: survey, generate, record, trace, stats, compare or input")?;
     if arguments.iter().any(|argument| argument == "--help") {
         return Ok(Command::Help);
     }
     match name.as_str() {
         "survey" => survey(rest),
         "generate" => generate(rest),
+        "record" => record(rest),
         "trace" => trace(rest),
         "stats" => stats(rest),
+        "compare" => compare(rest),
+        "input" => input(rest),
         _ => Err(format!("unknown command '{name}'")),
     }
 }
@@ -95,6 +129,16 @@ fn generate(arguments: &[String]) -> Result<Command, String> {
     })
 }
 
+fn record(arguments: &[String]) -> Result<Command, String> {
+    let options = Options::read(arguments, &["--seed", "--scene", "--damage"])?;
+    let name = options.text("--scene")?;
+    Ok(Command::Record {
+        seed: options.needed("--seed")?,
+        scene: named(&SCENES, "scene", &name)?,
+        damage: options.given("--damage"),
+    })
+}
+
 fn trace(arguments: &[String]) -> Result<Command, String> {
     let options = Options::read(arguments, &["--seed", "--kind", "--ticks"])?;
     let ticks = options.needed("--ticks")?;
@@ -113,6 +157,28 @@ fn stats(arguments: &[String]) -> Result<Command, String> {
     Ok(Command::Stats {
         seed: options.needed("--seed")?,
         sweeps: options.needed("--sweeps")?,
+    })
+}
+
+fn compare(arguments: &[String]) -> Result<Command, String> {
+    let options = Options::read(arguments, &["--program", "--seed", "--sweeps", "--seconds"])?;
+    let until = match (options.number("--sweeps")?, options.number("--seconds")?) {
+        (Some(sweeps), None) => Until::Sweeps(sweeps),
+        (None, Some(seconds)) => Until::Seconds(seconds),
+        _ => return Err("compare needs --sweeps or --seconds, and not both".to_string()),
+    };
+    Ok(Command::Compare {
+        program: options.text("--program")?,
+        seed: options.needed("--seed")?,
+        until,
+    })
+}
+
+fn input(arguments: &[String]) -> Result<Command, String> {
+    let options = Options::read(arguments, &["--seed", "--number"])?;
+    Ok(Command::Input {
+        seed: options.needed("--seed")?,
+        number: options.needed("--number")?,
     })
 }
 
@@ -144,6 +210,11 @@ impl Options {
         self.0.contains_key(option)
     }
 
+    fn text(&self, option: &str) -> Result<String, String> {
+        let value = self.0.get(option);
+        value.cloned().ok_or(format!("{option} is missing"))
+    }
+
     fn number(&self, option: &str) -> Result<Option<u64>, String> {
         let Some(value) = self.0.get(option) else {
             return Ok(None);
@@ -162,11 +233,16 @@ impl Options {
     }
 
     fn kind(&self) -> Result<Kind, String> {
-        let Some(value) = self.0.get("--kind") else {
-            return Ok(Kind::Mixed);
-        };
-        let known = KINDS.iter().find(|(name, _)| name == value);
-        let (_, kind) = known.ok_or(format!("unknown kind '{value}'"))?;
-        Ok(*kind)
+        match self.0.get("--kind") {
+            Some(value) => named(&KINDS, "kind", value),
+            None => Ok(Kind::Mixed),
+        }
     }
+}
+
+/// What a table has under this name.
+fn named<T: Copy>(table: &[(&str, T)], what: &str, name: &str) -> Result<T, String> {
+    let known = table.iter().find(|(other, _)| *other == name);
+    let (_, found) = known.ok_or(format!("unknown {what} '{name}'"))?;
+    Ok(*found)
 }

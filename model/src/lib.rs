@@ -2,6 +2,7 @@
 //! Each rule works on the whole trace and carries the sentence of 01 that it transcribes.
 
 pub mod brackets;
+pub mod compare;
 pub mod edges;
 pub mod frames;
 pub mod generate;

@@ -3,14 +3,16 @@
 mod command;
 
 use command::Command;
-use model::edges::{edges, Edge, Kind};
+use model::compare::{compare, inputs::Input, Until};
+use model::edges::{self, edges, Edge};
 use model::frames::hexadecimal;
+use model::generate::recording::recording;
 use model::generate::{self, damage::damaged, input::input, length, random::Random};
 use model::machine::machine_on;
 use model::records::record;
 use model::samples::Trace;
 use model::statistics::statistics;
-use model::survey::survey;
+use model::survey::{refused_line, surveyed};
 use std::io::{self, Read, Write};
 use std::process::ExitCode;
 
@@ -23,8 +25,9 @@ fn main() -> ExitCode {
             return ExitCode::from(2);
         }
     };
-    match output(&command).and_then(|bytes| print(&bytes)) {
-        Ok(()) => ExitCode::SUCCESS,
+    match carry_out(&command) {
+        Ok(true) => ExitCode::SUCCESS,
+        Ok(false) => ExitCode::from(1),
         Err(wrong) => {
             eprintln!("model: {wrong}");
             ExitCode::from(1)
@@ -32,11 +35,11 @@ fn main() -> ExitCode {
     }
 }
 
-/// What a command prints.
-fn output(command: &Command) -> Result<Vec<u8>, String> {
+/// Carry out a command; tell whether what it compared agrees.
+fn carry_out(command: &Command) -> Result<bool, String> {
     match *command {
-        Command::Help => Ok(command::help().into_bytes()),
-        Command::Survey { ref file } => Ok(survey(&read(file.as_deref())?).into_bytes()),
+        Command::Help => print(command::help().as_bytes())?,
+        Command::Survey { ref file } => print_survey(&read(file.as_deref())?)?,
         Command::Generate {
             seed,
             kind,
@@ -45,18 +48,58 @@ fn output(command: &Command) -> Result<Vec<u8>, String> {
         } => {
             let mut random = Random::new(seed);
             let whole = input(kind, sweeps, length, &mut random);
-            Ok(if damage {
-                damaged(&whole, &mut random)
-            } else {
-                whole
-            })
+            print_frames(whole, damage, random)?;
+        }
+        Command::Record {
+            seed,
+            scene,
+            damage,
+        } => {
+            let mut random = Random::new(seed);
+            let whole = recording(&scene, &mut random);
+            print_frames(whole, damage, random)?;
         }
         Command::Trace { seed, kind, ticks } => {
             let trace = generate::trace(kind, ticks, &mut Random::new(seed));
-            Ok(trace_lines(&trace).into_bytes())
+            print(trace_lines(&trace).as_bytes())?;
         }
-        Command::Stats { seed, sweeps } => Ok(stats_lines(seed, sweeps).into_bytes()),
+        Command::Stats { seed, sweeps } => print(stats_lines(seed, sweeps).as_bytes())?,
+        Command::Compare {
+            ref program,
+            seed,
+            until,
+        } => return print_comparison(program, seed, until),
+        Command::Input { seed, number } => print(&Input::new(seed, number).frames)?,
     }
+    Ok(true)
+}
+
+/// Print what the survey program prints: the lines on standard output, and a refusal's place on
+/// standard error.
+fn print_survey(input: &[u8]) -> Result<(), String> {
+    let surveyed = surveyed(input);
+    print(surveyed.printed.as_bytes())?;
+    if let Some(refused) = surveyed.refused {
+        eprint!("{}", refused_line(&refused));
+    }
+    Ok(())
+}
+
+/// Print the frames, or damage and print them.
+fn print_frames(whole: Vec<u8>, damage: bool, mut random: Random) -> Result<(), String> {
+    if damage {
+        print(&damaged(&whole, &mut random))
+    } else {
+        print(&whole)
+    }
+}
+
+/// Compare the program with the model; tell whether nothing failed.
+fn print_comparison(program: &str, seed: u64, until: Until) -> Result<bool, String> {
+    let report = compare(program.as_ref(), seed, until)
+        .map_err(|error| format!("cannot compare with {program}: {error}"))?;
+    print(report.lines().as_bytes())?;
+    Ok(report.is_good())
 }
 
 fn read(file: Option<&str>) -> Result<Vec<u8>, String> {
@@ -102,9 +145,9 @@ fn trace_lines(trace: &Trace) -> String {
 
 fn edge_word(edge: &Edge) -> String {
     let kind = match edge.kind {
-        Kind::Actual => 'a',
-        Kind::Pseudo => 'p',
-        Kind::Extra => 'x',
+        edges::Kind::Actual => 'a',
+        edges::Kind::Pseudo => 'p',
+        edges::Kind::Extra => 'x',
     };
     format!("{}:{kind}", edge.tick)
 }

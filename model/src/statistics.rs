@@ -42,7 +42,7 @@ impl Statistics {
         &mut self.counts[place].1
     }
 
-    fn add(&mut self, name: &str, amount: usize) {
+    pub fn add(&mut self, name: &str, amount: usize) {
         *self.entry(name) += amount as u64;
     }
 

@@ -32,9 +32,20 @@ fn wrong_usage_is_named_with_status_2() {
         (vec!["generate", "--seed", "x"], "'x'"),
         (vec!["generate", "--seed", "1", "--kind", "loud"], "'loud'"),
         (vec!["generate", "--seed", "1", "--seed", "2"], "twice"),
+        (vec!["record", "--seed", "1"], "--scene is missing"),
+        (vec!["record", "--seed", "1", "--scene", "sea"], "'sea'"),
         (vec!["trace", "--seed", "1"], "--ticks is missing"),
         (vec!["trace", "--seed", "1", "--ticks", "32769"], "32769"),
         (vec!["stats", "--seed", "1"], "--sweeps is missing"),
+        (
+            vec!["compare", "--seed", "1", "--sweeps", "1"],
+            "--program is missing",
+        ),
+        (
+            vec!["compare", "--program", "p", "--seed", "1"],
+            "--sweeps or --seconds",
+        ),
+        (vec!["input", "--seed", "1"], "--number is missing"),
     ] {
         let output = model(&arguments, b"");
         assert_eq!(output.status.code(), Some(2), "{arguments:?}");
@@ -54,7 +65,7 @@ fn a_file_that_cannot_be_read_is_named_with_status_1() {
 fn help_lists_the_commands_and_kinds() {
     let output = model(&["--help"], b"");
     assert_eq!(output.status.code(), Some(0));
-    for word in ["survey", "generate", "trace", "stats", "mixed", "bytes"] {
+    for word in ["survey", "generate", "trace", "stats", "compare", "mixed"] {
         assert!(text(&output.stdout).contains(word), "{word}");
     }
 }
@@ -65,6 +76,7 @@ fn survey_prints_a_refusal_with_status_0() {
     assert_eq!(output.status.code(), Some(0));
     let expected = "12000000000000000000000000\n1f03\n";
     assert_eq!(text(&output.stdout), expected);
+    assert_eq!(text(&output.stderr), "refusal 3 at byte 15\n");
 }
 
 #[test]
@@ -77,6 +89,15 @@ fn generated_frames_are_surveyed() {
         .any(|line| line.starts_with("12")));
     let kind = ["generate", "--seed", "3", "--kind", "quiet", "--damage"];
     assert_ne!(model(&kind, b"").stdout, model(&kind[..5], b"").stdout);
+}
+
+#[test]
+fn a_recording_is_printed_whole_or_damaged() {
+    let scene = ["record", "--seed", "1", "--scene", "quiet", "--damage"];
+    let (damaged, whole) = (model(&scene, b""), model(&scene[..5], b""));
+    assert!(text(&whole.stdout).starts_with("0101"));
+    assert!(text(&whole.stdout).ends_with("\n03\n"));
+    assert_ne!(whole.stdout, damaged.stdout);
 }
 
 #[test]

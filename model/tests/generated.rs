@@ -6,10 +6,12 @@ use model::generate::calls::calls;
 use model::generate::damage::damaged;
 use model::generate::input::input;
 use model::generate::random::Random;
+use model::generate::recording::{recording, SCENES};
 use model::generate::{length, short_length, trace, Kind, KINDS};
 use model::machine::{machine_on, OPEN_REPLIES};
 use model::samples::is_bad;
 use model::statistics::statistics;
+use model::survey::survey;
 use model::sweep::SWEEP_TICKS;
 
 #[test]
@@ -84,4 +86,38 @@ fn every_outcome_and_every_flag_occurs() {
         assert!(*count > 0, "{name} never occurs");
     }
     assert!(statistics.counts().len() > 45);
+}
+
+/// The totals of all sweeps of a recording, added up.
+fn recorded_totals(name: &str, seed: u64) -> [u64; 6] {
+    let (_, scene) = SCENES
+        .into_iter()
+        .find(|(other, _)| *other == name)
+        .expect("a scene");
+    let printed = survey(&recording(&scene, &mut Random::new(seed)));
+    let totals: Vec<&str> = printed
+        .lines()
+        .filter(|line| line.starts_with("12"))
+        .collect();
+    assert_eq!(totals.len() as i64, scene.sweeps, "every sweep is closed");
+    assert!(!printed.contains("\n1f"), "nothing is refused");
+    std::array::from_fn(|place| {
+        let digits = 2 + 4 * place..6 + 4 * place;
+        let values = totals.iter().map(|line| &line[digits.clone()]);
+        values
+            .map(|value| u64::from_str_radix(value, 16).expect("digits"))
+            .sum()
+    })
+}
+
+#[test]
+fn recordings_show_what_their_scene_says() {
+    for seed in 1..=5 {
+        let [_, replies, _, _, lost, _] = recorded_totals("quiet", seed);
+        assert!((1..=15).contains(&replies) && lost == 0);
+        let [_, replies, _, garbled, _, _] = recorded_totals("terminal", seed);
+        assert!((24..=120).contains(&replies) && garbled > 0);
+        let [_, replies, _, _, lost, _] = recorded_totals("busy", seed);
+        assert!(replies > 300 && lost > 20);
+    }
 }

@@ -4,7 +4,8 @@ use model::generate::damage::{damaged, damaged_by, Damage};
 use model::generate::input::{input, take_line};
 use model::generate::random::Random;
 use model::generate::{short_length, Kind};
-use model::survey::survey;
+use model::refusals::Refusal;
+use model::survey::{survey, surveyed, Refused};
 
 /// A reply with F1 at 10 in a sweep of this many ticks, as lines of one tick.
 fn one_reply(ticks: usize) -> String {
@@ -167,4 +168,41 @@ fn damaged_inputs_print_lines_of_known_form_and_stop_at_a_refusal() {
 #[should_panic(expected = "a bad flag byte")]
 fn a_trace_stops_the_program_at_a_bad_flag_byte() {
     model::samples::Trace::new(&[9, 6], &[80, 80]);
+}
+
+#[test]
+fn a_refusal_is_certain_at_the_end_of_its_line() {
+    let open = "01010000\n";
+    for (rest, refusal, byte) in [
+        ("", None, 0),
+        ("03\n03\n020950\n", Some(Refusal::NoSweep), 15),
+        ("020650\n03\n", Some(Refusal::BadFlag), 16),
+        ("\n03\n", Some(Refusal::BadLine), 10),
+        ("02g950\n03\n", Some(Refusal::BadLine), 16),
+        ("0209", Some(Refusal::BadLine), 13),
+        ("0300\n03\n", Some(Refusal::BadFrame), 14),
+        ("01040000\n03\n", Some(Refusal::Mode), 18),
+    ] {
+        let refused = surveyed(format!("{open}{rest}").as_bytes()).refused;
+        let expected = refusal.map(|refusal| Refused { refusal, byte });
+        assert_eq!(refused, expected, "{rest:?}");
+    }
+}
+
+#[test]
+fn a_line_is_too_long_after_259_bytes_without_a_newline() {
+    let full = format!("02{}", "0950".repeat(64));
+    for (line, byte) in [
+        (format!("{full}0\n"), 268),
+        (format!("{full}00\n"), 268),
+        (format!("{full}0"), 268),
+        (full.clone(), 267),
+        (full.repeat(1_000), 268),
+    ] {
+        let refused = surveyed(format!("01010000\n{line}").as_bytes()).refused;
+        let refusal = Refusal::BadLine;
+        assert_eq!(refused, Some(Refused { refusal, byte }));
+    }
+    let good = format!("01010000\n{full}\n03\n");
+    assert_eq!(surveyed(good.as_bytes()).refused, None);
 }

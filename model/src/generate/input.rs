@@ -60,6 +60,15 @@ pub fn take_lines(trace: &Trace, random: &mut Random) -> Vec<String> {
     lines
 }
 
+/// The trace in pieces as long as a line holds.
+pub fn full_lines(trace: &Trace) -> Vec<String> {
+    let flags = trace.flags().chunks(LINE_SAMPLES);
+    flags
+        .zip(trace.values().chunks(LINE_SAMPLES))
+        .map(|(flags, values)| take_line(flags, values))
+        .collect()
+}
+
 /// One `02` line.
 pub fn take_line(flags: &[u8], values: &[u8]) -> String {
     let pairs: Vec<u8> = flags

@@ -8,6 +8,7 @@ pub mod damage;
 pub mod input;
 pub mod noise;
 pub mod random;
+pub mod recording;
 pub mod scenes;
 pub mod traffic;
 
