@@ -8,8 +8,8 @@ use rules::Reply;
 use rules::Slot;
 use rules::Totals;
 use sweep::Answer;
-use sweep::Processor;
 use sweep::Front;
+use sweep::Processor;
 ghost use Prim.Native.Nat.{_+_, _*_, _≤_};
 ghost use lib.ListN.{length};
 

@@ -63,10 +63,10 @@ module _ (p : Processor) (held new input : List ℕ) (from at : ℕ) (b : List �
         next = f .next;
         made = f .made;
         same = λ R.
-          ap (λ (x : List ℕ). surveyed (linesIn x) σ) (regroup held new (allRead ts) R)
-          ∙ one (allRead ts ++ R)
-          ∙ ap (λ (x : List ℕ). shown ++ x) (sym (on-goes (r .scan) o (linesIn (drop (r .from) input ++ (allRead ts ++ R))) (d .next)) ∙ f .same R)
-          ∙ sym (append-assoc shown (allPrinted ts) (afterwards (lastScan (r .scan) ts) (linesIn (lastHeld (drop (r .from) input) ts ++ R)) (f .next)));
+            ap (λ (x : List ℕ). surveyed (linesIn x) σ) (regroup held new (allRead ts) R)
+            ∙ one (allRead ts ++ R)
+            ∙ ap (λ (x : List ℕ). shown ++ x) (sym (on-goes (r .scan) o (linesIn (drop (r .from) input ++ (allRead ts ++ R))) (d .next)) ∙ f .same R)
+            ∙ sym (append-assoc shown (allPrinted ts) (afterwards (lastScan (r .scan) ts) (linesIn (lastHeld (drop (r .from) input) ts ++ R)) (f .next)));
       }
 
   -- a refusal is the end
@@ -76,9 +76,9 @@ module _ (p : Processor) (held new input : List ℕ) (from at : ℕ) (b : List �
         next = d .next;
         made = d .made;
         same = λ R.
-          ap (λ (x : List ℕ). surveyed (linesIn x) σ) (regroup held new [] R)
-          ∙ one R
-          ∙ ap (λ (x : List ℕ). x ++ afterwards (r .scan) (linesIn (drop (r .from) input ++ R)) (d .next)) (sym (append-nil shown));
+            ap (λ (x : List ℕ). surveyed (linesIn x) σ) (regroup held new [] R)
+            ∙ one R
+            ∙ ap (λ (x : List ℕ). x ++ afterwards (r .scan) (linesIn (drop (r .from) input ++ R)) (d .next)) (sym (append-nil shown));
       }
 
 from-any : (ts : List Turn) (p : Processor) (held : List ℕ) (σ : Sweep) (s : Scan) → Open s → Made σ p → Chain p held ts → From p held σ s ts
