@@ -22,10 +22,10 @@ pub record Put (F b₀ b : List ℕ) (j : ℕ) : Type 0 where
   pub new : (k : ℕ) → k < j → getD b k 0 ≡ getD F k 0
   pub old : (k : ℕ) → j ≤ k → getD b k 0 ≡ getD b₀ k 0
 
-put-start : (F b : List ℕ) → Put F b b 0
+pub put-start : (F b : List ℕ) → Put F b b 0
 put-start F b = record { size = refl; new = λ k h. absurd (omega arith); old = λ k h. refl }
 
-put-next : (F b₀ b : List ℕ) (j x : ℕ) → j < length b₀ → x ≡ getD F j 0 → Put F b₀ b j → Put F b₀ (set b j x) (j + 1)
+pub put-next : (F b₀ b : List ℕ) (j x : ℕ) → j < length b₀ → x ≡ getD F j 0 → Put F b₀ b j → Put F b₀ (set b j x) (j + 1)
 put-next F b₀ b j x l e h =
     record {
       size = length-set b j x ∙ h .size;
@@ -38,7 +38,7 @@ put-next F b₀ b j x l e h =
         ap (λ (i : ℕ). getD (set b j x) i 0) z ∙ getD-set-same b j x 0 (omega (arith, h .size)) ∙ e ∙ ap (λ (i : ℕ). getD F i 0) (sym z)
     go k q (inr d) = getD-set-other b j k x 0 d ∙ h .new k (omega arith)
 
-put-end : (F b₀ b : List ℕ) (j : ℕ) → length F ≡ j → j ≤ length b₀ → Put F b₀ b j → b ≡ over F b₀
+pub put-end : (F b₀ b : List ℕ) (j : ℕ) → length F ≡ j → j ≤ length b₀ → Put F b₀ b j → b ≡ over F b₀
 unfolding over
 put-end F b₀ b j e l h =
     ext-getD 0 b (over F b₀) (omega (arith, h .size, length-append F (drop (length F) b₀), length-drop (length F) b₀))

@@ -165,6 +165,10 @@ totals-are t =
     with : {k l m n : List ℕ} → k ≡ l → m ≡ n → k ++ m ≡ l ++ n
     with p q = ap₂ (λ (x y : List ℕ). x ++ y) p q
 
+pub totals-size : (t : Totals) → length (totalsBytes t) ≡ 12
+unfolding totalsBytes bytes
+totals-size t = refl
+
 pub totals-length : (t : Totals) → length (totalsLine t) ≡ 27
 unfolding totalsBytes bytes
 totals-length t = refl

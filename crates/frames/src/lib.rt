@@ -8,6 +8,7 @@ ghost use Rattle.frames.specs.Frames.{digit, areDigits, wellFormed, Digi
 ghost use Rattle.frames.specs.Post.{AllDigits, FillPost, ReadPost};
 pub use writing::refusal_line;
 pub use writing::reply_lines;
+pub use writing::totals_bytes;
 pub use writing::totals_line;
 
 // Open with mode and azimuth, so many samples, or close.

@@ -94,7 +94,8 @@ pub fn reply_lines(records: &[u8], out: &mut [u8], at: usize) -> usize
     at + 39 * n
 }
 
-fn totals_bytes(t: Totals) -> [u8; 12]
+// The six totals, 2 bytes each, high byte first.
+pub fn totals_bytes(t: Totals) -> [u8; 12]
     ensures { λ r. ⌜ r ≡ totalsBytes t ⌝ }
 {
     [

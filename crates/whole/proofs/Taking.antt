@@ -1,0 +1,254 @@
+-- All pieces of a trace, one after the other, and the close: the buffer then holds the records of every reply.
+use Prim.Native.Nat.{ℕ, zero, suc, _+_, _-_, _*_, _/_, _%_, _≤_, _<_, min}
+use native.Mathlib.Omega.{arith}
+use mathlib.Core.Path.{_≡_, refl, sym, ap, ap₂, _∙_, subst}
+use mathlib.Core.Bool.{Bool, true, false, not, cond, _||_, true≢false}
+use mathlib.Core.List.{List, [], _∷_, _++_, append-assoc, append-nil}
+use lib.Dec.{leb, ltb, eqb}
+use lib.ListN.{length, getD, take, drop, length-append, length-drop}
+use lib.Seq.{take-add, take-length, length-take-le, take-all}
+use borrow.Author.Tests.{eq-eqb, le-ltb}
+use borrow.Rule.Slice.PartMut.{midOf, postOf, putMid}
+use Rattle.rules.specs.declared.Reply.{Reply}
+use Rattle.rules.specs.declared.Totals.{Totals}
+use Rattle.rules.specs.Settings.{standard}
+use Rattle.rules.specs.Lists.{any, All}
+use Rattle.rules.specs.Samples.{Trace, _⧺_, bad, pieceLimit, sweepLimit}
+use Rattle.rules.specs.Buffers.{over, over-at}
+use Rattle.rules.specs.Edges.{edgeAt}
+use Rattle.rules.specs.Machine.{after, final}
+use Rattle.rules.specs.Records.{records, replies, totals}
+use Rattle.rules.specs.Calls.{Answer as Verdict, accepted, refused, takeAnswer, closeAnswer, takeRoom, closeRoom, handed, fresh, rest}
+use Rattle.rules.proofs.Buffers.{over-at-more}
+use Rattle.rules.proofs.Joining.{handed-fresh, handed-rest, handed-done, records-append, records-length}
+use Rattle.rules.proofs.HandingOut.{fresh-most, rest-most}
+use Rattle.frames.specs.Writing.{totalsBytes}
+use Rattle.sweep.specs.declared.Answer.{Answer}
+use Rattle.sweep.specs.declared.Answer.the-variants.{Accepted, Refused}
+use Rattle.sweep.specs.declared.Processor.{Processor}
+use Rattle.sweep.specs.declared.Closed.{Closed}
+use Rattle.sweep.specs.State.{Sweep, none, running, runningProcessor, processorOf, Within, Made}
+use Rattle.sweep.specs.Post.{takeVerdict, closeVerdict, closeAs, closeBufferAs, ClosePost}
+use Rattle.sweep.proofs.Answers.{standard-allowed}
+use Rattle.whole.specs.declared.Reached.{Reached}
+use Rattle.whole.specs.Post.{wholeRoom, Reaches, TakeAtPost, Taken, Takes, TakeAllPost, CloseAtPost}
+use Rattle.whole.proofs.Pieces.{isRefused, countIn, over-rest, mid-is, post-is}
+
+-- ---- lists
+
+all-take : (n : ℕ) (l : List ℕ) → All (λ v. v ≤ 255) l → All (λ v. v ≤ 255) (take n l)
+all-take zero l h = tt
+all-take (suc n) [] h = tt
+all-take (suc n) (x ∷ l) h = (h .0, all-take n l (h .1))
+
+pub or-left : (a b : Bool) → (a || b) ≡ false → a ≡ false
+or-left false b e = refl
+or-left true b e = e
+
+pub or-right : (a b : Bool) → (a || b) ≡ false → b ≡ false
+or-right false b e = e
+or-right true b e = absurd (true≢false e)
+
+any-take : (p : ℕ → Bool) (n : ℕ) (l : List ℕ) → any p l ≡ false → any p (take n l) ≡ false
+any-take p zero l h = refl
+any-take p (suc n) [] h = refl
+any-take p (suc n) (x ∷ l) h = ap₂ (λ (a b : Bool). a || b) (or-left (p x) (any p l) h) (any-take p n l (or-right (p x) (any p l) h))
+
+any-drop : (p : ℕ → Bool) (n : ℕ) (l : List ℕ) → any p l ≡ false → any p (drop n l) ≡ false
+any-drop p zero l h = h
+any-drop p (suc n) [] h = refl
+any-drop p (suc n) (x ∷ l) h = any-drop p n l (or-right (p x) (any p l) h)
+
+-- ---- buffers
+
+over-start : (l b : List ℕ) → over l b ≡ over-at l 0 b
+unfolding over over-at
+over-start l b = ap (λ (n : ℕ). l ++ drop n b) {x = length l} {y = 0 + length l} (omega arith)
+
+-- more bytes behind those at the start
+pub over-more : (l k b : List ℕ) (to : ℕ) → to ≡ length l → to ≤ length b → over-at k to (over l b) ≡ over (l ++ k) b
+over-more l k b to e h = ap (over-at k to) (over-start l b) ∙ over-at-more l k b 0 to (omega (arith, e)) h ∙ sym (over-start (l ++ k) b)
+
+-- ---- what is due of the first ticks
+
+abbrev nothing : Trace
+nothing = record { flags = []; values = [] }
+
+none-due : handed standard nothing ≡ []
+unfolding after
+none-due = handed-done standard standard-allowed nothing
+
+pub handed-most : (T : Trace) → length (handed standard T) ≤ 4 * ((length (T .flags) + 205) / 206)
+handed-most T =
+    let e : handed standard T ≡ handed standard nothing ++ fresh standard nothing T = handed-fresh standard standard-allowed nothing T refl in
+    omega (arith, ap length e, length-append (handed standard nothing) (fresh standard nothing T), ap length none-due, fresh-most standard nothing T)
+
+-- the first i ticks, and those from i to before e
+abbrev upTo : ℕ → Trace → Trace
+upTo i T = record { flags = take i (T .flags); values = take i (T .values) }
+
+abbrev between : ℕ → ℕ → Trace → Trace
+between i e T = record { flags = take (e - i) (drop i (T .flags)); values = take (e - i) (drop i (T .values)) }
+
+up-more : (T : Trace) (i e : ℕ) → i ≤ e → upTo i T ⧺ between i e T ≡ upTo e T
+up-more T i e h =
+    let q : i + (e - i) ≡ e = omega arith in
+    let f : take i (T .flags) ++ take (e - i) (drop i (T .flags)) ≡ take e (T .flags) = sym (take-add i (e - i) (T .flags)) ∙ ap (λ (n : ℕ). take n (T .flags)) q in
+    let v : take i (T .values) ++ take (e - i) (drop i (T .values)) ≡ take e (T .values) = sym (take-add i (e - i) (T .values)) ∙ ap (λ (n : ℕ). take n (T .values)) q in
+    λ j. record { flags = f j; values = v j }
+
+up-all : (T : Trace) (n : ℕ) → n ≡ length (T .flags) → length (T .flags) ≡ length (T .values) → upTo n T ≡ T
+up-all T n e a =
+    let f : take n (T .flags) ≡ T .flags = take-all n (T .flags) (omega (arith, e)) in
+    let v : take n (T .values) ≡ T .values = take-all n (T .values) (omega (arith, e, a)) in
+    λ j. record { flags = f j; values = v j }
+
+-- ---- one piece more
+
+pub record Takings (p : Processor) (T : Trace) (piece : ℕ) (b₀ : List ℕ) (q : Processor) (at i : ℕ) (b : List ℕ) : Type 0 where
+  pub size : length b ≡ length b₀
+  pub inside : at ≤ length b₀
+  pub reach : i ≤ length (T .flags)
+  pub result : (mode azimuth : ℕ) → p ≡ runningProcessor mode azimuth (record { flags = []; values = [] }) → Takes mode T piece b₀
+      → Taken mode azimuth (upTo i T) b₀ (record { processor = q; at = at }) b
+
+module _ (p : Processor) (T : Trace) (piece : ℕ) (b₀ : List ℕ) (alike : length (T .flags) ≡ length (T .values)) where
+  pub takings-start : Takings p T piece b₀ p 0 0 b₀
+  unfolding over records
+  takings-start =
+      record {
+        size = refl;
+        inside = omega arith;
+        reach = omega arith;
+        result = λ mode azimuth e t.
+            record {
+              processor = e;
+              place = omega (arith, ap length none-due);
+              buffer = ap (λ (l : List Reply). over (records l) b₀) (sym none-due);
+            };
+      }
+
+  module _ (q : Processor) (at i end : ℕ) (b : List ℕ) (h : Takings p T piece b₀ q at i b) (more : i < length (T .flags)) (step : end ≡ i + min piece (length (T .flags) - i))
+      (r : Reached) (b′ : List ℕ) (post : TakeAtPost q (between i end T) at b r b′) where
+    here : end ≤ length (T .flags)
+    here = omega (arith, step)
+
+    size-i : length (upTo i T .flags) ≡ i
+    size-i = length-take-le i (T .flags) (h .reach)
+
+    size-P : length (between i end T .flags) ≡ end - i
+    size-P = length-take-le (end - i) (drop i (T .flags)) (omega (arith, length-drop i (T .flags), here))
+
+    alike-P : length (between i end T .flags) ≡ length (between i end T .values)
+    alike-P = size-P ∙ sym (length-take-le (end - i) (drop i (T .values)) (omega (arith, length-drop i (T .values), here, alike)))
+
+    alike-i : length (upTo i T .flags) ≡ length (upTo i T .values)
+    alike-i = size-i ∙ sym (length-take-le i (T .values) (omega (arith, h .reach, alike)))
+
+    module _ (mode azimuth : ℕ) (e : p ≡ runningProcessor mode azimuth (record { flags = []; values = [] })) (t : Takes mode T piece b₀) where
+      before : Taken mode azimuth (upTo i T) b₀ (record { processor = q; at = at }) b
+      before = h .result mode azimuth e t
+
+      made : Made (running mode azimuth (upTo i T)) q
+      unfolding processorOf
+      made =
+          record {
+            is = before .processor;
+            sound = record { named = t .named; alike = alike-i; short = omega (arith, size-i, h .reach, t .short); bytes = all-take i (T .values) (t .bytes) };
+          }
+
+      room : takeRoom (length (between i end T .flags)) ≤ length b - at
+      room = omega (arith, size-P, size-i, before .place, handed-most (upTo i T), h .size, t .room, here, h .reach, more, step)
+
+      accept : takeVerdict (running mode azimuth (upTo i T)) (between i end T) (length b - at) ≡ accepted
+      unfolding takeVerdict takeAnswer
+      accept =
+          rw (
+            eq-eqb (length (between i end T .flags)) (length (between i end T .values)) alike-P,
+            le-ltb pieceLimit (length (between i end T .flags)) (omega (arith, size-P, step, t .most)),
+            le-ltb sweepLimit (length (upTo i T .flags) + length (between i end T .flags)) (omega (arith, size-P, size-i, t .short, here, step)),
+            le-ltb (length b - at) (takeRoom (length (between i end T .flags))) room,
+            any-take bad (end - i) (drop i (T .flags)) (any-drop bad i (T .flags) (t .good)),
+          )
+
+      reached : Reaches mode azimuth (upTo i T) (between i end T) at b r b′
+      reached = post .result mode azimuth (upTo i T) made accept
+
+      joined : handed standard (upTo end T) ≡ handed standard (upTo i T) ++ fresh standard (upTo i T) (between i end T)
+      joined =
+          ap (handed standard) (sym (up-more T i end (omega (arith, step)))) ∙ handed-fresh standard standard-allowed (upTo i T) (between i end T) alike-i
+
+      now-taken : Taken mode azimuth (upTo end T) b₀ (record { processor = r .processor; at = r .at }) b′
+      now-taken =
+          let H = handed standard (upTo i T) in
+          let F = fresh standard (upTo i T) (between i end T) in
+          record {
+            processor = reached .processor ∙ ap (runningProcessor mode azimuth) (up-more T i end (omega (arith, step)));
+            place = omega (arith, reached .place, before .place, ap length joined, length-append H F);
+            buffer =
+                reached .buffer ∙ ap (over-at (records F) at) (before .buffer)
+                ∙ over-more (records H) (records F) b₀ at (before .place ∙ sym (records-length H)) (h .inside)
+                ∙ ap (λ (l : List ℕ). over l b₀) (sym (records-append H F) ∙ ap records (sym joined));
+          }
+
+    pub takings-next : length b′ ≡ length b → Takings p T piece b₀ (r .processor) (r .at) end b′
+    takings-next l = record { size = l ∙ h .size; inside = omega (arith, post .inside, h .size); reach = here; result = now-taken }
+
+  pub takings-end : (q : Processor) (at i : ℕ) (b : List ℕ) → length (T .flags) ≤ i → Takings p T piece b₀ q at i b → TakeAllPost p T piece b₀ (record { processor = q; at = at }) b
+  takings-end q at i b l h =
+      record {
+        inside = h .inside;
+        result = λ mode azimuth e t.
+            subst (λ (X : Trace). Taken mode azimuth X b₀ (record { processor = q; at = at }) b) (up-all T i (omega (arith, h .reach)) alike) (h .result mode azimuth e t);
+      }
+
+-- ---- the close
+
+module _ (p : Processor) (at : ℕ) (b : List ℕ) (here : at ≤ length b) (x : Closed) (m′ : List ℕ) (post : ClosePost p (midOf at (length b - at) b) x m′) where
+  module _ (mode azimuth : ℕ) (T : Trace) (m : Made (running mode azimuth T) p) (room : 144 ≤ length b - at) where
+    verdict : closeVerdict (running mode azimuth T) (length (midOf at (length b - at) b)) ≡ accepted
+    unfolding closeVerdict closeAnswer
+    verdict =
+        let n : length (midOf at (length b - at) b) ≡ length b - at = ap length (mid-is at b) ∙ length-drop at b in
+        rw (le-ltb (length (midOf at (length b - at) b)) closeRoom (omega (arith, n)))
+
+    is : x ≡ closeAs accepted (running mode azimuth T)
+    is = post .result (running mode azimuth T) m ∙ ap (λ (v : Verdict). closeAs v (running mode azimuth T)) verdict
+
+    records-are : putMid at (length b - at) b m′ ≡ over-at (records (rest standard T)) at b
+    records-are =
+        ap₂ (λ (y z : List ℕ). take at b ++ (y ++ z))
+        (post .buffer (running mode azimuth T) m ∙ ap (λ (v : Verdict). closeBufferAs v (running mode azimuth T) (midOf at (length b - at) b)) verdict ∙ ap (over (records (rest standard T))) (mid-is at b))
+        (post-is at b here)
+        ∙ ap (λ (y : List ℕ). take at b ++ y) (append-nil (over (records (rest standard T)) (drop at b)))
+        ∙ over-rest (records (rest standard T)) at b
+
+  pub closed-accepted : (c c′ : List ℕ) → c′ ≡ over (totalsBytes (x .totals)) c → (n k : ℕ) → x .answer ≡ Accepted n → k ≡ min n 8
+      → CloseAtPost p at b c (at / 18 + k) (putMid at (length b - at) b m′) c′
+  unfolding countIn
+  closed-accepted c c′ w n k e q =
+      record {
+        result = λ mode azimuth T m room.
+            let count : n ≡ length (rest standard T) = ap countIn (sym e ∙ ap (λ (y : Closed). y .answer) (is mode azimuth T m room)) in
+            omega (arith, q, count, rest-most standard standard-allowed T);
+        recordBytes = records-are;
+        totalBytes = λ mode azimuth T m room.
+            w ∙ ap (λ (y : Totals). over (totalsBytes y) c) (ap (λ (y : Closed). y .totals) (is mode azimuth T m room));
+      }
+
+  pub closed-refused : (c c′ : List ℕ) → (n : ℕ) → x .answer ≡ Refused n → CloseAtPost p at b c (at / 18) (putMid at (length b - at) b m′) c′
+  unfolding isRefused
+  closed-refused c c′ n e =
+      record {
+        result = λ mode azimuth T m room. absurd (never mode azimuth T m room);
+        recordBytes = λ mode azimuth T m room. absurd (never mode azimuth T m room);
+        totalBytes = λ mode azimuth T m room. absurd (never mode azimuth T m room);
+      }
+    where
+      never : (mode azimuth : ℕ) (T : Trace) → Made (running mode azimuth T) p → 144 ≤ length b - at → ⊥
+      never mode azimuth T m room = true≢false (ap isRefused (sym e ∙ ap (λ (y : Closed). y .answer) (is mode azimuth T m room)))
+
+-- every value that a slice of bytes has is a byte
+pub all-bytes : (l : List ℕ) → ((i : ℕ) → getD l i 0 ≤ 255) → All (λ v. v ≤ 255) l
+all-bytes [] h = tt
+all-bytes (x ∷ l) h = (h 0, all-bytes l (λ i. h (suc i)))
