@@ -66,16 +66,16 @@ static double least(double a, double b)
     return a < b ? a : b;
 }
 
-/* Both, in alternating runs, for so many seconds; the least time of each. */
-static pair timed(const work *w, double seconds)
+/* Both on each work, in alternating runs, for so many seconds; the least times. */
+static void time_all(size_t count, const work *w, pair *best, double seconds)
 {
-    pair best = { 1e9, 1e9 };
     const double end = now() + seconds;
-    for (int round = 0; round < LEAST_ROUNDS || now() < end; round++) {
-        best.yardstick = least(best.yardstick, run_once(yardstick_sweep, w));
-        best.proved = least(best.proved, run_once(whole_sweep, w));
-    }
-    return best;
+    for (size_t i = 0; i < count; i++) best[i] = (pair){ 1e9, 1e9 };
+    for (int round = 0; round < LEAST_ROUNDS || now() < end; round++)
+        for (size_t i = 0; i < count; i++) {
+            best[i].yardstick = least(best[i].yardstick, run_once(yardstick_sweep, &w[i]));
+            best[i].proved = least(best[i].proved, run_once(whole_sweep, &w[i]));
+        }
 }
 
 /* ------------------------------------------------------------------- results */
@@ -115,7 +115,8 @@ static void time_scenes(double seconds)
         printf("edges\t%s\t%.1f\n", scenes[scene].name, 1000 * count_edges(&measured) / ticks);
         for (size_t j = 0; j < PIECES; j++) {
             const work w = { &measured, SWEEPS, ARP_SWEEP, pieces[j], 1 };
-            const pair p = timed(&w, seconds);
+            pair p;
+            time_all(1, &w, &p, seconds);
             printf("time\t%s\t%zu\t%.4f\t%.4f\n", scenes[scene].name, pieces[j], 1e9 * p.yardstick / ticks, 1e9 * p.proved / ticks);
             fflush(stdout);
         }
@@ -131,11 +132,11 @@ static void time_growth(int scene, double seconds)
         memcpy(measured.flags + i * n, measured.flags, n);
         memcpy(measured.values + i * n, measured.values, n);
     }
-    const work empty = { &measured, 1, 0, ARP_PIECE, 1000 }, once = { &measured, 1, n, ARP_PIECE, 20 },
-               tenfold = { &measured, 1, 10 * n, ARP_PIECE, 2 };
-    const pair a = timed(&empty, seconds), b = timed(&once, seconds), c = timed(&tenfold, seconds);
-    printf("growth\t%s\t%zu\t%.1f\t%.1f\t%.1f\t%.1f\t%.1f\t%.1f\n", scenes[scene].name, n, 1e9 * a.yardstick,
-           1e9 * b.yardstick, 1e9 * c.yardstick, 1e9 * a.proved, 1e9 * b.proved, 1e9 * c.proved);
+    const work w[3] = { { &measured, 1, 0, ARP_PIECE, 400 }, { &measured, 1, n, ARP_PIECE, 100 }, { &measured, 1, 10 * n, ARP_PIECE, 10 } };
+    pair p[3];
+    time_all(3, w, p, 3 * seconds);
+    printf("growth\t%s\t%zu\t%.1f\t%.1f\t%.1f\t%.1f\t%.1f\t%.1f\n", scenes[scene].name, n, 1e9 * p[0].yardstick,
+           1e9 * p[1].yardstick, 1e9 * p[2].yardstick, 1e9 * p[0].proved, 1e9 * p[1].proved, 1e9 * p[2].proved);
 }
 
 /* --------------------------------------------------------------------- stack */
