@@ -80,7 +80,7 @@ static void time_all(size_t count, const work *w, pair *best, double seconds)
 
 /* ------------------------------------------------------------------- results */
 
-/* Edges of the traces, from the yardstick's words after each 64 ticks; the last 11 ticks of a sweep are left out. */
+/* Edges of the traces, from the yardstick's words after each 64 ticks; the last 10 ticks of a sweep are left out. */
 static unsigned count_edges(const traces *t)
 {
     static uint8_t out[ARP_TAKE_BYTES(64)];
