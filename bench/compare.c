@@ -54,7 +54,7 @@ void compare_sweep(tally *t, const char *name, const uint8_t *flags, const uint8
     fill(&found);
     const int32_t e = yardstick_sweep(1, 0, flags, n, values, n, piece, expected.out + AROUND, OUT_ROOM,
                                       expected.totals + AROUND, TOTALS);
-    const int32_t f = whole_sweep(1, 0, flags, n, values, n, piece, found.out + AROUND, ARP_TAKE_BYTES(n),
+    const int32_t f = whole_sweep(1, 0, flags, n, values, n, piece, found.out + AROUND, WHOLE_BYTES(n),
                                   found.totals + AROUND, TOTALS);
     count(t, same(name, n, piece, e, &expected, f, &found));
 }
@@ -111,7 +111,7 @@ static int spoil(arguments *a, int variant)
     case 4: a->piece = 0; return 5;
     case 5: a->piece = ARP_PIECE + 1; return 5;
     case 6: a->values_len += TICKS - a->flags_len; a->flags_len = TICKS; a->out_len = OUT_ROOM; return 6;
-    case 7: a->out_len = ARP_TAKE_BYTES(a->flags_len) - 1; return 7;
+    case 7: a->out_len = WHOLE_BYTES(a->flags_len) - 1; return 7;
     case 8: a->totals_len = TOTALS - 1; return 7;
     default: a->flags = bad; return 8;
     }
@@ -134,7 +134,7 @@ static void expect_bad_bytes(tally *t, arguments good)
 
 void compare_refusals(tally *t)
 {
-    const arguments good = { 1, 16383, quiet, 1000, 1000, 64, ARP_TAKE_BYTES(1000), TOTALS };
+    const arguments good = { 1, 16383, quiet, 1000, 1000, 64, WHOLE_BYTES(1000), TOTALS };
     expect_bad_bytes(t, good);
     for (int first = 0; first < VARIANTS; first++)
         for (int second = first; second < VARIANTS; second++) {
