@@ -1,2 +1,2 @@
 pub mod BadBytes
-pub mod Quietness
+pub mod Bareness

@@ -4,7 +4,7 @@ ghost use mathlib.Core.Path.{_≡_};
 ghost use lib.ListN.{length};
 ghost use Rattle.rules.specs.Lists.{any};
 ghost use Rattle.rules.specs.Samples.{bad};
-ghost use Rattle.edges.specs.Flags.{QuietBlock};
+ghost use Rattle.edges.specs.Flags.{BareBlock};
 use super::packing::eight;
 
 // Whether a flag byte is bad. The bits of all bytes, and the P with N of each, are gathered and tested once.
@@ -24,10 +24,10 @@ pub fn has_bad(flags: &[u8]) -> bool
     (15 < bits) | (pairs / 2 % 2 == 1)
 }
 
-// Whether none of the 64 ticks from o on has A.
-pub fn quiet_block(flags: &[u8], o: usize) -> bool
+// Whether none of the 64 flag bytes from o on has a bit.
+pub fn bare_block(flags: &[u8], o: usize) -> bool
     requires { ⌜ o + 64 ≤ length (now flags) ⌝ }
-    ensures { λ r. ⌜ QuietBlock (now (flags .entry)) o r ⌝ }
+    ensures { λ r. ⌜ BareBlock (now (flags .entry)) o r ⌝ }
 {
     let x = eight(flags, o)
         | eight(flags, o + 8)
@@ -37,5 +37,5 @@ pub fn quiet_block(flags: &[u8], o: usize) -> bool
         | eight(flags, o + 40)
         | eight(flags, o + 48)
         | eight(flags, o + 56);
-    x & 0x0101_0101_0101_0101 == 0
+    x == 0
 }

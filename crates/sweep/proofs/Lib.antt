@@ -7,6 +7,7 @@ pub mod Keeping
 pub mod Visiting
 pub mod Working
 pub mod Feeding
+pub mod Staying
 pub mod Streaming
 pub mod Operations
 pub mod Opening

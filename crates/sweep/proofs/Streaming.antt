@@ -24,6 +24,8 @@ use Rattle.rules.proofs.PastEnd.{zeros-alike, edge-silence, rest-silence, past-
 use Rattle.edges.specs.declared.packing.Planes.{Planes}
 use Rattle.edges.specs.Words.{bit, Holds, HoldsPart}
 use Rattle.edges.specs.Packing.{Packed, PackedPart}
+use Rattle.edges.specs.Flags.{BareBlock}
+use Rattle.edges.proofs.packing.FlagBits.{A-bit, P-bit, N-bit, M-bit}
 use Rattle.edges.proofs.BitLaws.{zero-bit, bit-above}
 use Rattle.rules.specs.Buffers.{over-at}
 use Rattle.machine.specs.Places.{machineOf}
@@ -72,6 +74,20 @@ pub packed-all : (flags : List ℕ) (o r : ℕ) (x : Planes) → r ≡ 64 → Pa
 packed-all flags o r x e h =
     subst (λ (n : ℕ). PackedPart flags o n x) (sym e)
     (record { a = whole-word (A flags) o (x .a) (h .a); p = whole-word (P flags) o (x .p) (h .p); n = whole-word (N flags) o (x .n) (h .n); m = whole-word (M flags) o (x .m) (h .m) })
+
+-- 64 ticks without flags
+pub packed-bare : (flags : List ℕ) (o r : ℕ) → r ≡ 64 → (b : Bool) → BareBlock flags o b → b ≡ true → PackedPart flags o r (record { a = 0; p = 0; n = 0; m = 0 })
+packed-bare flags o r e b h t =
+    subst (λ (n : ℕ). PackedPart flags o n (record { a = 0; p = 0; n = 0; m = 0 })) (sym e)
+    (record {
+      a = none (A flags) (λ i l. sym (A-bit flags (o + i)) ∙ h .yes t i 0 l (omega arith));
+      p = none (P flags) (λ i l. sym (P-bit flags (o + i)) ∙ h .yes t i 1 l (omega arith));
+      n = none (N flags) (λ i l. sym (N-bit flags (o + i)) ∙ h .yes t i 2 l (omega arith));
+      m = none (M flags) (λ i l. sym (M-bit flags (o + i)) ∙ h .yes t i 3 l (omega arith));
+    })
+  where
+    none : (F : ℕ → Bool) → ((i : ℕ) → i < 64 → F (o + i) ≡ false) → HoldsPart F o 64 0
+    none F f = record { below = omega arith; at = λ i l. zero-bit i ∙ sym (f i l); rest = λ i l. zero-bit i }
 
 -- the first n ticks of a piece
 abbrev upTo : List ℕ → List ℕ → ℕ → Trace

@@ -1,9 +1,9 @@
 -- What the inner functions of a sweep answer, for the trace that their words and values belong to.
 use Prim.Native.Nat.{ℕ, zero, suc, _+_, _-_, _*_, _^_, _≤_, _<_}
-use mathlib.Core.Bool.{Bool, true, false, cond}
+use mathlib.Core.Bool.{Bool, true, false, cond, _&&_}
 use mathlib.Core.List.{List, [], _∷_, _++_}
 use mathlib.Core.Path.{_≡_}
-use lib.Dec.{leb, ltb}
+use lib.Dec.{leb, ltb, eqb}
 use lib.ListN.{length, getD}
 use Rattle.rules.specs.declared.Reply.{Reply}
 use Rattle.rules.specs.declared.Machine.{Machine}
@@ -17,7 +17,7 @@ use Rattle.rules.specs.Records.{records}
 use Rattle.rules.specs.Calls.{fresh, silence, takeRoom, closeRoom}
 use Rattle.rules.specs.declared.Counts.{Counts}
 use Rattle.rules.specs.declared.Totals.{Totals}
-use Rattle.machine.specs.Places.{machineOf}
+use Rattle.machine.specs.Places.{test, machineOf}
 use Rattle.records.specs.declared.Retired.{Retired}
 use Rattle.rules.specs.Buffers.{over-at}
 use Rattle.edges.specs.declared.packing.Planes.{Planes}
@@ -42,6 +42,14 @@ pub record Low (G : List ℕ) (x : Planes) : Type 0 where
 -- the words after r ticks more
 pub record AdvancePost (f : Front) (x : Planes) (r : ℕ) (f′ : Front) : Type 0 where
   pub result : (F G : List ℕ) → f ≡ frontOf F → length G ≡ r → Low G x → f′ ≡ frontOf (F ++ G)
+
+-- all words are 0
+abbrev pub still : Front → Bool
+still f = eqb (f .a) 0 && (eqb (f .a1) 0 && (eqb (f .p) 0 && (eqb (f .p1) 0 && (eqb (f .n) 0 && (eqb (f .n1) 0 && (eqb (f .l) 0 && (eqb (f .l1) 0 && (eqb (f .k) 0 && (eqb (f .k1) 0 && (eqb (f .h) 0 && (eqb (f .h1) 0 && (eqb (f .e) 0 && (eqb (f .e1) 0 && (eqb (f .e2) 0 && (eqb (f .e3) 0 && (eqb (f .m) 0 && (eqb (f .m1) 0 && (eqb (f .m2) 0 && (eqb (f .m3) 0)))))))))))))))))))
+
+-- no flag
+abbrev pub bare : Planes → Bool
+bare x = eqb (x .a) 0 && (eqb (x .p) 0 && (eqb (x .n) 0 && eqb (x .m) 0))
 
 -- a block has 64 ticks, or all that are left
 abbrev pub blockLength : ℕ → ℕ
@@ -174,6 +182,12 @@ pub record BlockPost (o : Run) (x : Planes) (r t : ℕ) (recent : List ℕ) (bas
   pub same : length b′ ≡ length b
   pub inside : o .at ≤ length b → y .at ≤ length b
   pub result : (T P Q : Trace) (b₀ : List ℕ) → Fed T P b₀ o b → length (Q .flags) ≡ r → Low (Q .flags) x → Next T P Q t recent base values b₀ b → Fed T (P ⧺ Q) b₀ y b′
+
+-- a block without flags leaves the run as it is: its words are 0, and no reply is due once t ticks are taken
+pub record Stays (o : Run) (x : Planes) (t : ℕ) : Type 0 where
+  pub planes : bare x ≡ true
+  pub words : still (o .front) ≡ true
+  pub open-still : 179 ≤ t → test (ended (t - 179)) (o .machine .places .p0) ≡ false
 
 -- ---- a piece
 

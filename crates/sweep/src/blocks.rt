@@ -1,8 +1,11 @@
 // A block of up to 64 ticks: the words move on, the machine works the ticks that became known, and what is over is handed out.
 ghost use Prim.Native.Nat.{_<_, _≤_};
-ghost use Rattle.sweep.specs.Steps.{VisitPost, WorkPost, BlockPost};
+ghost use mathlib.Core.Path.{_≡_};
+ghost use mathlib.Core.Bool.{true};
+ghost use Rattle.sweep.specs.Steps.{VisitPost, WorkPost, bare, Stays, BlockPost};
 use super::front::Front;
 use super::front::advance;
+use super::front::is_still;
 use super::span::Span;
 use super::span::bracket_at;
 use super::span::pulse_at;
@@ -15,6 +18,7 @@ use edges::words::lowest;
 use edges::words::without_lowest;
 use machine::edge_step;
 use records::Retired;
+use records::due_any;
 use records::retire;
 use rules::Machine;
 
@@ -82,6 +86,31 @@ pub fn work(
     retire(machine, t - 179, out, place)
 }
 
+// Whether none of the planes has a flag.
+fn is_bare(x: Planes) -> bool
+    ensures { λ r. ⌜ r ≡ bare x ⌝ }
+{
+    (x.a == 0) & ((x.p == 0) & ((x.n == 0) & (x.m == 0)))
+}
+
+// Whether a block of these planes leaves the run as it is, once t ticks are taken.
+fn stays(o: Run, x: Planes, t: u32) -> bool
+    ensures { λ r. ⌜ (r ≡ true → Stays o x t) ⌝ }
+{
+    let front = o.front;
+    let machine = o.machine;
+    if !is_bare(x) {
+        return false;
+    }
+    if !is_still(front) {
+        return false;
+    }
+    if t < 179 {
+        return true;
+    }
+    !due_any(machine, t - 179)
+}
+
 // The run after r ticks more, whose flags are the r low bits of x; they make t ticks.
 pub fn block(
     o: Run,
@@ -96,6 +125,9 @@ pub fn block(
     requires { ⌜ (0 < r) × (r ≤ 64) × (t < 65000) ⌝ }
     ensures { λ y. ⌜ BlockPost o x r t (now (recent .entry)) base (now (values .entry)) (now (out .entry)) y (now (out .exit)) ⌝ }
 {
+    if stays(o, x, t) {
+        return o;
+    }
     let before = o.front;
     let machine = o.machine;
     let front = advance(before, x, r);

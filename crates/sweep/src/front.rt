@@ -3,7 +3,7 @@ ghost use Prim.Native.Nat.{_<_, _≤_};
 ghost use mathlib.Core.Path.{_≡_};
 ghost use mathlib.Core.List.{[]};
 ghost use Rattle.sweep.specs.State.{frontOf};
-ghost use Rattle.sweep.specs.Steps.{AdvancePost};
+ghost use Rattle.sweep.specs.Steps.{AdvancePost, still};
 use edges::detection::Past;
 use edges::detection::detect_or_skip;
 use edges::packing::Planes;
@@ -89,6 +89,33 @@ pub fn advance(f: Front, x: Planes, r: u32) -> Front
         m2,
         m3,
     }
+}
+
+// Whether all words are 0: no flag in the last 128 ticks, and neither an edge nor an M in the last 256.
+pub fn is_still(f: Front) -> bool
+    ensures { λ r. ⌜ r ≡ still f ⌝ }
+{
+    (f.a == 0)
+        & ((f.a1 == 0)
+            & ((f.p == 0)
+                & ((f.p1 == 0)
+                    & ((f.n == 0)
+                        & ((f.n1 == 0)
+                            & ((f.l == 0)
+                                & ((f.l1 == 0)
+                                    & ((f.k == 0)
+                                        & ((f.k1 == 0)
+                                            & ((f.h == 0)
+                                                & ((f.h1 == 0)
+                                                    & ((f.e == 0)
+                                                        & ((f.e1 == 0)
+                                                            & ((f.e2 == 0)
+                                                                & ((f.e3 == 0)
+                                                                    & ((f.m == 0)
+                                                                        & ((f.m1 == 0)
+                                                                            & ((f.m2 == 0)
+                                                                                & ((f.m3
+                                                                                    == 0))))))))))))))))))))
 }
 
 // The words before the first tick.

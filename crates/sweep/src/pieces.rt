@@ -6,6 +6,7 @@ ghost use Rattle.edges.specs.Packing.{PackedPart};
 ghost use Rattle.sweep.specs.Steps.{blockLength, FeedPost, DrainPost};
 use super::blocks::Run;
 use super::blocks::block;
+use edges::flags::bare_block;
 use edges::packing::Planes;
 use edges::packing::pack;
 use edges::packing::pack_part;
@@ -16,6 +17,14 @@ pub fn packed(flags: &[u8], o: usize, r: usize) -> Planes
     ensures { λ x. ⌜ PackedPart (now (flags .entry)) o r x ⌝ }
 {
     if r == 64 {
+        if bare_block(flags, o) {
+            return Planes {
+                a: 0,
+                p: 0,
+                n: 0,
+                m: 0,
+            };
+        }
         return pack(flags, o);
     }
     pack_part(flags, o, r)

@@ -1,8 +1,8 @@
--- `quiet_block` tells whether no byte of 64 has A: the or of their eight words, masked, is 0.
+-- `bare_block` tells whether no byte of 64 has a bit: the or of their eight words is 0.
 use borrow.Author.Needs.{needs}
-use Rattle.edges.proofs.flags.Quietness.{block-is}
-use Rattle.edges.proofs.flags.quiet_block.Statement.{statement}
-use Rattle.edges.proofs.flags.quiet_block.Tie as tie
+use Rattle.edges.proofs.flags.Bareness.{block-is}
+use Rattle.edges.proofs.flags.bare_block.Statement.{statement}
+use Rattle.edges.proofs.flags.bare_block.Tie as tie
 
 eight-requires : tie.Need-eight-requires
 eight-requires c κs = search needs
@@ -56,8 +56,8 @@ returns c =
     (c .before .before .before .before .before .before .before .eight .ensures) (c .before .before .before .before .before .before .eight2 .ensures) (c .before .before .before .before .before .eight3 .ensures) (c .before .before .before .before .eight4 .ensures)
     (c .before .before .before .eight5 .ensures) (c .before .before .eight6 .ensures) (c .before .eight7 .ensures) (c .eight8 .ensures)
 
-pub quiet-block-spec : {M : Type 1} → statement M
-quiet-block-spec =
+pub bare-block-spec : {M : Type 1} → statement M
+bare-block-spec =
     tie.close
     (tie.spec
     eight-requires
