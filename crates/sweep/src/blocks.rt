@@ -94,7 +94,7 @@ fn is_bare(x: Planes) -> bool
 }
 
 // Whether a block of these planes leaves the run as it is, once t ticks are taken.
-fn stays(o: Run, x: Planes, t: u32) -> bool
+pub fn stays(o: Run, x: Planes, t: u32) -> bool
     ensures { λ r. ⌜ (r ≡ true → Stays o x t) ⌝ }
 {
     let front = o.front;

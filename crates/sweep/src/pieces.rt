@@ -6,6 +6,7 @@ ghost use Rattle.edges.specs.Packing.{PackedPart};
 ghost use Rattle.sweep.specs.Steps.{blockLength, FeedPost, DrainPost};
 use super::blocks::Run;
 use super::blocks::block;
+use super::blocks::stays;
 use edges::flags::bare_block;
 use edges::packing::Planes;
 use edges::packing::pack;
@@ -63,6 +64,10 @@ pub fn feed(
         let x = packed(flags, i, r);
         let next = i + r;
         let t = base + next as u32;
+        if stays(run, x, t) {
+            i = next;
+            continue;
+        }
         let y = block(run, x, r as u32, t, recent, base, values, out);
         run = y;
         i = next;
