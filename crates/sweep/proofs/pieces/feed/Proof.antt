@@ -21,7 +21,7 @@ abbrev μ-loop : tie.MeasureT-loop
 
 -- src/pieces.rt:62:5
 loop-holds : tie.Need-loop-holds Inv-loop μ-loop
-loop-holds c = feed-start (c .before .before .before .args .o) (c .before .before .before .args .recent .now) (c .before .before .before .args .base) (c .before .before .before .args .flags .now) (c .before .before .before .args .values .now) (c .before .before .before .args .out .now) 
+loop-holds c = feed-start (c .before .before .before .args .o) (c .before .before .before .args .recent .now) (c .before .before .before .args .base) (c .before .before .before .args .flags .now) (c .before .before .before .args .values .now) (c .before .before .before .args .out .now)
 
 -- src/pieces.rt:63:30
 sub-block-length : tie.Need-sub-block-length Inv-loop μ-loop
