@@ -330,7 +330,7 @@ module _ (p : Processor) (input : List ℕ) (from at : ℕ) (b₀ : List ℕ) wh
         reach = λ h. h;
         inside = λ h. h;
         scans = λ σ m.
-            record { new = []; next = σ; made = m; place = omega arith; output = sym (over-at-nil at b₀); same = λ R. refl };
+            record { new = []; next = σ; made = m; place = omega arith; output = sym (over-at-nil at b₀); why = tt; same = λ R. refl };
       }
 
   module _ (q : Processor) (i place : ℕ) (b : List ℕ) (h : Scanning p input from at b₀ q i place b) where
@@ -354,6 +354,7 @@ module _ (p : Processor) (input : List ℕ) (from at : ℕ) (b₀ : List ℕ) wh
               made = record { is = w .made; sound = subst Good (w .is) (good-line (d .next) (d .made .sound) (part input i to)) };
               place = omega (arith, w .to, d .place, length-append (d .new) (w .new));
               output = over-at-next (d .new) (w .new) b₀ b b′ at place (d .place) (omega (arith, room, h .size)) (d .output) out;
+              why = tt;
               same = λ R.
                   d .same R
                   ∙ ap (λ (x : List ℕ). d .new ++ x) (survey-first input i to line R (d .next) ∙ ap (λ (x : Outcome). further x (surveyed (linesIn (drop to input ++ R)))) (w .is))
@@ -400,6 +401,7 @@ module _ (p : Processor) (input : List ℕ) (from at : ℕ) (b₀ : List ℕ) wh
                   made = record { is = w .made ∙ d .made .is; sound = d .made .sound };
                   place = omega (arith, w .to, d .place, length-append (d .new) (refusalLine k));
                   output = over-at-next (d .new) (refusalLine k) b₀ b b′ at place (d .place) (omega (arith, room, h .size)) (d .output) out;
+                  why = record { from = i; line = line; refused = w .is; before = d .new; printed-last = refl };
                   same = λ R.
                       d .same R
                       ∙ ap (λ (x : List ℕ). d .new ++ x) (survey-first input i to line R (d .next) ∙ ap (λ (x : Outcome). further x (surveyed (linesIn (drop to input ++ R)))) (w .is))
@@ -426,6 +428,7 @@ module _ (p : Processor) (input : List ℕ) (from at : ℕ) (b₀ : List ℕ) wh
                   made = record { is = w .made ∙ d .made .is; sound = d .made .sound };
                   place = d .place;
                   output = step .output (d .next) (d .made) ∙ ap (λ (t : Bool). outputAs t o place b) (w .room) ∙ d .output;
+                  why = tt;
                   same = d .same;
                 };
           }

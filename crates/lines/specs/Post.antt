@@ -118,6 +118,19 @@ afterwards Rest ls σ = surveyed ls σ
 afterwards NoRoom ls σ = surveyed ls σ
 afterwards (Stopped k) ls σ = []
 
+-- the line that ends before `to` was refused with k, and its `1f` is the last that was printed
+pub record Refusal (k : ℕ) (input : List ℕ) (to : ℕ) (new : List ℕ) (σ : Sweep) : Type 0 where
+  pub from : ℕ
+  pub line : LineEnd input from to
+  pub refused : lineAt σ (take (to - from) (drop from input)) ≡ stops k
+  pub before : List ℕ
+  pub printed-last : new ≡ before ++ refusalLine k
+
+abbrev pub WhyEnded : Scan → List ℕ → ℕ → List ℕ → Sweep → Type 0
+WhyEnded Rest input to new σ = Unit {0}
+WhyEnded NoRoom input to new σ = Unit {0}
+WhyEnded (Stopped k) input to new σ = Refusal k input to new σ
+
 -- From the sweep σ on: `new` was printed, and `next` is the sweep then. Whatever bytes R come behind the input, what the survey prints for both
 -- is what was printed, and then what it prints for the rest.
 pub record Scans (σ : Sweep) (input : List ℕ) (from at : ℕ) (b : List ℕ) (r : Scanned) (b′ : List ℕ) : Type 0 where
@@ -126,6 +139,7 @@ pub record Scans (σ : Sweep) (input : List ℕ) (from at : ℕ) (b : List ℕ) 
   pub made : Made next (r .processor)
   pub place : r .at ≡ at + length new
   pub output : b′ ≡ over-at new at b
+  pub why : WhyEnded (r .scan) input (r .from) new next
   pub same : (R : List ℕ) → surveyed (linesIn (drop from input ++ R)) σ ≡ new ++ afterwards (r .scan) (linesIn (drop (r .from) input ++ R)) next
 
 -- why it came to an end: the rest has no newline and is shorter than a line may be, or the output has no room for what a line may print
