@@ -1,6 +1,7 @@
 // Words as rows of ticks: moving one on, and going through its set bits.
 ghost use Prim.Native.Nat.{_<_, _≤_};
-ghost use Rattle.edges.specs.Words.{Slid, Lowest, WithoutLowest};
+ghost use mathlib.Core.Path.{_≡_};
+ghost use Rattle.edges.specs.Words.{bit, Slid, Lowest, WithoutLowest};
 
 // The word r ticks on, 1 to 64: the r low bits of `now` come after the 64 ticks of `before`, whose first r drop out.
 pub fn slide(before: u64, now: u64, r: u32) -> u64
@@ -24,4 +25,12 @@ pub fn without_lowest(x: u64) -> u64
     ensures { λ r. ⌜ WithoutLowest x r ⌝ }
 {
     x & (x - 1)
+}
+
+// Bit i of a word.
+pub fn marked(x: u64, i: u32) -> bool
+    requires { ⌜ i < 64 ⌝ }
+    ensures { λ r. ⌜ r ≡ bit x i ⌝ }
+{
+    (x >> i) % 2 == 1
 }

@@ -115,7 +115,7 @@ length-cond : (b : Bool) (x : Reply) (l : List Reply) → length (cond b (x ∷ 
 length-cond true x l = omega arith
 length-cond false x l = omega arith
 
-count-placed : (p : Reply → Bool) (l : List Reply) → length l ≤ 4 → countIn p (placed l) ≡ count p l
+pub count-placed : (p : Reply → Bool) (l : List Reply) → length l ≤ 4 → countIn p (placed l) ≡ count p l
 count-placed p [] h = refl
 count-placed p (a ∷ []) h = omega (arith, length-cond (p a) a [])
 count-placed p (a ∷ b ∷ []) h = omega (arith, length-cond (p a) a (filter p (b ∷ [])), length-cond (p b) b [])

@@ -120,7 +120,7 @@ due-placed u (a ∷ b ∷ c ∷ d ∷ x ∷ l) h = absurd (omega arith)
 none-due : (u : ℕ) (r : Reply) (l : List Reply) → InOrder (r ∷ l) → ended u r ≡ false → All (λ x. ended u x ≡ false) (r ∷ l)
 none-due u r l o e = (e, all-map (λ x. f1 r ≤ f1 x) (λ x. ended u x ≡ false) (λ x h. ended-earlier u .earlier r x h e) l (o .0))
 
-all-open : (u : ℕ) (l : List Reply) → InOrder l → test (ended u) (placed l .p0) ≡ false → All (λ x. ended u x ≡ false) l
+pub all-open : (u : ℕ) (l : List Reply) → InOrder l → test (ended u) (placed l .p0) ≡ false → All (λ x. ended u x ≡ false) l
 all-open u [] o e = tt
 all-open u (r ∷ l) o e = none-due u r l o e
 

@@ -16,10 +16,14 @@ use super::values::value_at;
 use edges::packing::Planes;
 use edges::words::lowest;
 use edges::words::without_lowest;
-use machine::edge_step;
+use lanes::columns::places_of;
+use lanes::steps;
+use lanes::steps::load;
+
 use records::Retired;
 use records::due_any;
 use records::retire;
+use rules::Counts;
 use rules::Machine;
 
 // A piece on its way through: the words and the machine so far, and the place in the buffer behind the last record.
@@ -29,9 +33,18 @@ pub struct Run {
     pub at: usize,
 }
 
-// The machine at the i-th tick of the span, where an edge stands, once t ticks are taken.
+pub struct Visited {
+    pub counts: Counts,
+    pub at: usize,
+}
+
 pub fn visit(
-    m: Machine,
+    f1: &mut [u32; 4],
+    marks: &mut [u16; 4],
+    row: &mut [u16; 24],
+    level: &mut [f64; 4],
+    on: &mut [u64; 8],
+    c: Counts,
     s: Span,
     i: u32,
     t: u32,
@@ -40,18 +53,16 @@ pub fn visit(
     values: &[u8],
     out: &mut [u8],
     at: usize,
-) -> Retired
-    requires { ⌜ (i < 64) × (t < 65000) ⌝ }
-    ensures { λ x. ⌜ VisitPost m s i t (now (recent .entry)) base (now (values .entry)) at (now (out .entry)) x (now (out .exit)) ⌝ }
+) -> Visited
 {
     let u = tick_of(t, i);
-    let y = retire(m, u, out, at);
+    let end = steps::retire(f1, marks, row, level, on, u, out, at);
     let v = value_at(recent, base, values, u + 1);
     let e = pulse_at(s.main, i, u, v);
     let b = bracket_at(s, i, u, recent, base, values);
-    let left = y.machine;
-    let machine = edge_step(left, e, b);
-    Retired { machine, at: y.at }
+    let counts = steps::bracket(f1, marks, row, level, on, c, e, b, i, t);
+    steps::deal(f1, row, level, on, e, i);
+    Visited { counts, at: end }
 }
 
 // The machine at the last r ticks of the span.
@@ -69,21 +80,42 @@ pub fn work(
     requires { ⌜ (0 < r) × (r ≤ 64) × (t < 65000) ⌝ }
     ensures { λ x. ⌜ WorkPost m s r t (now (recent .entry)) base (now (values .entry)) at (now (out .entry)) x (now (out .exit)) ⌝ }
 {
-    let mut machine = m;
-    let mut place = at;
     let mut todo = top(s.due, r);
+    if todo == 0 {
+        return finish(m, t, out, at);
+    }
+    let mut f1 = [4294967295u32; 4];
+    let mut marks = [0u16; 4];
+    let mut row = [0u16; 24];
+    let mut level = [0.0f64; 4];
+    let mut on = [0u64; 8];
+    let f = m.places;
+    let mut counts = m.counts;
+    let mut place = at;
+    load(&mut f1, &mut marks, &mut row, &mut level, &mut on, f, t);
     while todo != 0 {
         let i = lowest(todo);
-        let v = visit(machine, s, i, t, recent, base, values, out, place);
-        let next = v.machine;
-        machine = next;
+        let v = visit(&mut f1, &mut marks, &mut row, &mut level, &mut on, counts, s, i, t, recent, base, values, out, place);
+        counts = v.counts;
         place = v.at;
         todo = without_lowest(todo);
     }
-    if t < 179 {
-        return Retired { machine, at: place };
+    if 179 <= t {
+        place = steps::retire(&mut f1, &mut marks, &mut row, &mut level, &mut on, t - 179, out, place);
     }
-    retire(machine, t - 179, out, place)
+    let places = places_of(&f1, &marks, &row, &level);
+    Retired {
+        machine: Machine { places, counts },
+        at: place,
+    }
+}
+
+fn finish(m: Machine, t: u32, out: &mut [u8], at: usize) -> Retired
+{
+    if t < 179 {
+        return Retired { machine: m, at };
+    }
+    retire(m, t - 179, out, at)
 }
 
 // Whether none of the planes has a flag.

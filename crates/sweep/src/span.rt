@@ -23,6 +23,10 @@ pub struct Span {
     pub main168: u64,
     pub main167: u64,
     pub main169: u64,
+    pub framed: u64,
+    pub less: u64,
+    pub more: u64,
+    pub main2: u64,
 }
 
 pub fn span_of(f: Front) -> Span
@@ -35,7 +39,13 @@ pub fn span_of(f: Front) -> Span
     let main168 = slide(f.m1, f.m, 55);
     let main167 = slide(f.m1, f.m, 54);
     let main169 = slide(f.m1, f.m, 56);
+    let less = u167 & !u168;
+    let more = !(u168 | u167);
     Span {
+        framed: u168 | u167 | f.e,
+        less,
+        more,
+        main2: (main168 & u168) | (main167 & less) | (main169 & more),
         due: u,
         at168: u168,
         at167: u167,
@@ -81,22 +91,13 @@ pub fn bracket_at(s: Span, i: u32, u: u32, recent: &[u8; 256], base: u32, values
     requires { ⌜ (i < 64) × (u < 65536) ⌝ }
     ensures { λ r. ⌜ r ≡ bracketIn s i u (now (recent .entry)) base (now (values .entry)) ⌝ }
 {
-    if marked(s.at168, i) {
-        let v = value_at(recent, base, values, u + 169);
-        let f = pulse_at(s.main168, i, u + 168, v);
-        return Bracket::With(f);
+    if !marked(s.framed, i) {
+        return Bracket::Without;
     }
-    if marked(s.at167, i) {
-        let v = value_at(recent, base, values, u + 168);
-        let f = pulse_at(s.main167, i, u + 167, v);
-        return Bracket::With(f);
-    }
-    if marked(s.at169, i) {
-        let v = value_at(recent, base, values, u + 170);
-        let f = pulse_at(s.main169, i, u + 169, v);
-        return Bracket::With(f);
-    }
-    Bracket::Without
+    let w = u + 168 + ((s.more >> i) % 2) as u32 - ((s.less >> i) % 2) as u32;
+    let v = value_at(recent, base, values, w + 1);
+    let f = pulse_at(s.main2, i, w, v);
+    Bracket::With(f)
 }
 
 // The tick of the i-th place of the span, once t ticks are taken.
