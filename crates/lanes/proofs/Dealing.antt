@@ -54,9 +54,10 @@ far-off k h = go (leb k 14) refl (eqb k 17) refl
 
 near-by : (q u : ℕ) → coversFrom q u ≡ true → (q ≤ u + 1) × ((u + 1 - q) / 12 ≤ 17)
 unfolding coversFrom
-near-by q u h =
-    (leb-true q (u + 1) (and-left (leb q (u + 1)) (leb ((u + 1 - q) % 12) 2) (covers-parts q u h)),
-    far-off ((u + 1 - q) / 12) (ap isPosition (sym (covers-position q u h)) ∙ h))
+near-by q u h = (
+  leb-true q (u + 1) (and-left (leb q (u + 1)) (leb ((u + 1 - q) % 12) 2) (covers-parts q u h)),
+  far-off ((u + 1 - q) / 12) (ap isPosition (sym (covers-position q u h)) ∙ h),
+)
 
 pub covering-early : (q u : ℕ) → u < q → coversFrom q u ≡ true → 0 ≡ position q u
 covering-early q u l h =
@@ -104,7 +105,7 @@ module _ (f w : List ℕ) (v : List Float) (j : ℕ) (e : Pulse) (own other : Bo
             let h = p .result lw lv in
             let z : takes (position (getD f j 0) (e .tick .0)) (wordAt w j .settled) ≡ true = ap (λ (y : ℕ). takes y (wordAt w j .settled)) (sym (ek c)) ∙ sym told ∙ on in
             let q : settle capped k (record { code = code; confidence = sure }) (wordAt w j)
-                ≡ settle capped (position (getD f j 0) (e .tick .0)) (verdict (e .main) own other) (wordAt w j) =
+            ≡ settle capped (position (getD f j 0) (e .tick .0)) (verdict (e .main) own other) (wordAt w j) =
             λ i. settle capped (ek c i) (record { code = ec i; confidence = es i }) (wordAt w j) in
             let r = ap (λ (y : Bool). cond y (average capped (referenceAt w v j) (e .value)) (referenceAt w v j)) es in
             record {

@@ -173,8 +173,12 @@ or-end false = refl
 any-of : (p : Reply → Bool) (P : ℕ → Bool) → ((r : Reply) → p r ≡ P (f1 r)) → P none ≡ false → (x : Rows) → anyIn p (placesOf x) ≡ anyOf P (x .f1)
 unfolding placesIn
 any-of p P same off x =
-    rw (by-f1 p P same off (x .f1) (x .marks) (x .row) (x .level) 0, by-f1 p P same off (x .f1) (x .marks) (x .row) (x .level) 1,
-    by-f1 p P same off (x .f1) (x .marks) (x .row) (x .level) 2, by-f1 p P same off (x .f1) (x .marks) (x .row) (x .level) 3)
+    rw (
+      by-f1 p P same off (x .f1) (x .marks) (x .row) (x .level) 0,
+      by-f1 p P same off (x .f1) (x .marks) (x .row) (x .level) 1,
+      by-f1 p P same off (x .f1) (x .marks) (x .row) (x .level) 2,
+      by-f1 p P same off (x .f1) (x .marks) (x .row) (x .level) 3,
+    )
 
 pub any-covered-of : (u : ℕ) → u < 70000 → (x : Rows) → anyIn (covers u) (placesOf x) ≡ anyOf (λ q. coversFrom q u) (x .f1)
 any-covered-of u h x = any-of (covers u) (λ q. coversFrom q u) (covers-f1 u) (covers-none u h) x

@@ -85,7 +85,13 @@ pub fn reference_at(row: &[u16; 24], level: &[f64; 4], j: usize) -> Reference
 }
 
 // The place that column j stands for; it is idle where F1 is the highest number.
-pub fn place_at(f1: &[u32; 4], marks: &[u16; 4], row: &[u16; 24], level: &[f64; 4], j: usize) -> Place
+pub fn place_at(
+    f1: &[u32; 4],
+    marks: &[u16; 4],
+    row: &[u16; 24],
+    level: &[f64; 4],
+    j: usize,
+) -> Place
     requires { ⌜ j < 4 ⌝ }
     ensures { λ r. ⌜ r ≡ placeIn (now (f1 .entry)) (now (marks .entry)) (now (row .entry)) (now (level .entry)) j ⌝ }
 {

@@ -3,7 +3,7 @@
 use Prim.Native.Nat.{ℕ, zero, suc, _+_, _-_, _≤_, _<_}
 use native.Mathlib.Omega.{arith}
 use mathlib.Core.Path.{_≡_, refl, sym, ap, ap₂, _∙_, subst}
-use mathlib.Core.Bool.{Bool, true, false, cond}
+use mathlib.Core.Bool.{Bool, true, false, not, _&&_, _||_, cond}
 use mathlib.Core.List.{List, [], _∷_, _++_, append-assoc}
 use lib.Dec.{leb}
 use lib.ListN.{length, getD, drop, replicate, length-append, length-replicate, List·getD-append, List·getD-eq-default}
@@ -17,6 +17,7 @@ use Rattle.rules.specs.Settings.{standard}
 use Rattle.rules.specs.Samples.{Trace, M}
 use Rattle.rules.specs.Edges.{Edge, stands, edgeAt}
 use Rattle.rules.specs.Machine.{bracketOf, bracketAt}
+use Rattle.rules.proofs.Truth.{impossible, or-left, or-right}
 use Rattle.edges.specs.Words.{bit, Holds, Slid}
 use Rattle.edges.specs.Planes.{hasEdge}
 use Rattle.edges.specs.Brackets.{Due, At168, At167}
@@ -145,25 +146,38 @@ keep-law recent values recent′ e =
 pub pulse-same : (x i t v : ℕ) (b : Bool) → b ≡ bit x i → record { tick = record { 0 = t }; main = b; value = v } ≡ pulseIn x i t v
 pulse-same x i t v b e = λ j. record { tick = record { 0 = t }; main = e j; value = v }
 
+pub choose-is : (c a b : Bool) → ((c && a) || (not c && b)) ≡ cond c a b
+choose-is true true b = refl
+choose-is true false b = refl
+choose-is false a b = refl
+
+pub chosen : (a b x y z x′ y′ z′ w : Bool) → x ≡ x′ → y ≡ y′ → z ≡ z′ → w ≡ cond b y z → cond a x w ≡ cond a x′ (cond b y′ z′)
+chosen a b x y z x′ y′ z′ w p q r e = λ i. cond a (p i) ((e ∙ (λ j. cond b (q j) (r j))) i)
+
 module _ (s : Span) (i u : ℕ) (recent : List ℕ) (base : ℕ) (values : List ℕ) where
-  pub bracket-168 : (f : Pulse) (v : ℕ) → bit (s .at168) i ≡ true → f ≡ pulseIn (s .main168) i (u + 168) v → v ≡ valueOf recent base values (u + 169)
-      → With f ≡ bracketIn s i u recent base values
+  pub bracket-none : (a b c : Bool) → a ≡ bit (s .at168) i → b ≡ bit (s .at167) i → c ≡ bit (s .at169) i → (a || (b || c)) ≡ false → Without ≡ bracketIn s i u recent base values
   unfolding bracketIn
-  bracket-168 f v b e q = rw (b, e, q)
+  bracket-none a b c ea eb ec off =
+      let bc = or-right a (b || c) off in
+      rw (sym ea ∙ or-left a (b || c) off, sym eb ∙ or-left b c bc, sym ec ∙ or-right b c bc)
 
-  pub bracket-167 : (f : Pulse) (v : ℕ) → bit (s .at168) i ≡ false → bit (s .at167) i ≡ true → f ≡ pulseIn (s .main167) i (u + 167) v
-      → v ≡ valueOf recent base values (u + 168) → With f ≡ bracketIn s i u recent base values
+  pub bracket-there : (a b c main : Bool) (d v : ℕ) → a ≡ bit (s .at168) i → b ≡ bit (s .at167) i → c ≡ bit (s .at169) i → (a || (b || c)) ≡ true
+      → main ≡ cond a (bit (s .main168) i) (cond b (bit (s .main167) i) (bit (s .main169) i)) → d ≡ cond a 168 (cond b 167 169) → v ≡ valueOf recent base values (u + d + 1)
+      → With (record { tick = record { 0 = u + d }; main = main; value = v }) ≡ bracketIn s i u recent base values
   unfolding bracketIn
-  bracket-167 f v a b e q = rw (a, b, e, q)
-
-  pub bracket-169 : (f : Pulse) (v : ℕ) → bit (s .at168) i ≡ false → bit (s .at167) i ≡ false → bit (s .at169) i ≡ true → f ≡ pulseIn (s .main169) i (u + 169) v
-      → v ≡ valueOf recent base values (u + 170) → With f ≡ bracketIn s i u recent base values
-  unfolding bracketIn
-  bracket-169 f v a b c e q = rw (a, b, c, e, q)
-
-  pub bracket-none : bit (s .at168) i ≡ false → bit (s .at167) i ≡ false → bit (s .at169) i ≡ false → Without ≡ bracketIn s i u recent base values
-  unfolding bracketIn
-  bracket-none a b c = rw (a, b, c)
+  bracket-there true b c main d v ea eb ec there em ed ev =
+      let z : u + d + 1 ≡ u + 169 = omega arith in
+      let q = ev ∙ ap (valueOf recent base values) z in
+      rw (sym ea) (λ j. With (record { tick = record { 0 = u + ed j }; main = em j; value = q j }))
+  bracket-there false true c main d v ea eb ec there em ed ev =
+      let z : u + d + 1 ≡ u + 168 = omega arith in
+      let q = ev ∙ ap (valueOf recent base values) z in
+      rw (sym ea, sym eb) (λ j. With (record { tick = record { 0 = u + ed j }; main = em j; value = q j }))
+  bracket-there false false true main d v ea eb ec there em ed ev =
+      let z : u + d + 1 ≡ u + 170 = omega arith in
+      let q = ev ∙ ap (valueOf recent base values) z in
+      rw (sym ea, sym eb, sym ec) (λ j. With (record { tick = record { 0 = u + ed j }; main = em j; value = q j }))
+  bracket-there false false false main d v ea eb ec there em ed ev = absurd (impossible (sym there))
 
 -- ---- the edge and the bracket at a tick of a span
 

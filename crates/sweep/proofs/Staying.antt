@@ -28,7 +28,7 @@ use Rattle.sweep.specs.declared.blocks.Run.{Run}
 use Rattle.sweep.specs.Steps.{AdvancePost, SpanPost, WorkPost, TopPost, still, bare, Stays, BlockPost}
 use Rattle.sweep.proofs.Advancing.{Slides, advance-law}
 use Rattle.sweep.proofs.Spans.{SpanMade, span-law}
-use Rattle.sweep.proofs.Working.{work-start, work-end-early, work-end-late}
+use Rattle.sweep.proofs.Working.{work-start, end-early, end-late, retires-late, plain-end}
 use Rattle.sweep.proofs.Feeding.{block-law}
 
 -- ---- zero words
@@ -169,10 +169,14 @@ work-none m r t recent base values at b h waits = go (leb 179 t) refl
     go : (c : Bool) → leb 179 t ≡ c → WorkPost m zeroSpan r t recent base values at b (record { machine = m; at = at }) b
     go true e =
         let l = leb-true 179 t e in
-        work-end-late m zeroSpan r t recent base values at b b m at (work-start m zeroSpan r t recent base values at b 0 h (top-zero r))
-        (record { machine = m; at = at }) b l (retire-none m (t - 179) at b (waits l))
+        let w = work-start (Unit {0}) m zeroSpan r t recent base values at b 0 h (top-zero r) in
+        plain-end m zeroSpan r t recent base values at b (record { machine = m; at = at }) b
+        (end-late (Unit {0}) m zeroSpan r t recent base values at b b m at w (record { machine = m; at = at }) b l
+        (retires-late (Unit {0}) m zeroSpan r t recent base values at b w (record { machine = m; at = at }) b (retire-none m (t - 179) at b (waits l))))
     go false e =
-        work-end-early m zeroSpan r t recent base values at b b m at (work-start m zeroSpan r t recent base values at b 0 h (top-zero r)) (leb-false 179 t e)
+        let w = work-start (Unit {0}) m zeroSpan r t recent base values at b 0 h (top-zero r) in
+        plain-end m zeroSpan r t recent base values at b (record { machine = m; at = at }) b
+        (end-early (Unit {0}) m zeroSpan r t recent base values at b b m at w (leb-false 179 t e))
 
 -- ---- the block
 

@@ -1,10 +1,12 @@
--- One visit of the machine: what is over is handed out, then the edge is taken. The numbers stay small enough for sums of 16 bits.
+-- One visit of the columns: what is over is handed out, then the edge is taken. The numbers stay small enough for sums of 16 bits.
 use Prim.Native.Nat.{ℕ, zero, suc, _+_, _-_, _*_, _≤_, _<_}
 use native.Mathlib.Omega.{arith}
 use mathlib.Core.Path.{_≡_, refl, sym, ap, _∙_, subst}
-use mathlib.Core.Bool.{Bool, true, false}
+use mathlib.Core.Bool.{Bool, true, false, cond}
 use mathlib.Core.List.{List, [], _∷_, _++_}
 use lib.ListN.{length}
+use lib.Ieee.{Float}
+use Rattle.rules.specs.declared.Counts.{Counts}
 use Rattle.rules.specs.declared.Reply.{Reply}
 use Rattle.rules.specs.declared.Pulse.{Pulse}
 use Rattle.rules.specs.declared.Bracket.{Bracket}
@@ -25,14 +27,19 @@ use Rattle.rules.proofs.Printed.{brackets-most}
 use Rattle.rules.proofs.Settled.{edge-timed}
 use Rattle.rules.proofs.Skipping.{visit}
 use Rattle.rules.proofs.EachReply.{value-byte, framing, framed-byte, ranged-each}
-use Rattle.machine.specs.Places.{machineOf}
-use Rattle.machine.proofs.Steps.{balanced-small}
+use Rattle.replies.specs.Sums.{capped}
+use Rattle.machine.specs.Places.{dealt, bracketIf, stepOn, placed, machineOf}
+use Rattle.machine.proofs.Steps.{balanced-small, edge-post}
 use Rattle.machine.specs.Post.{Small, f2Value, Fits, EdgePost}
-use Rattle.records.specs.declared.Retired.{Retired}
-use Rattle.records.specs.Post.{Queue, RetirePost}
+use Rattle.records.specs.Post.{Queue}
 use Rattle.records.proofs.Handing.{ordered-queue}
+use Rattle.edges.specs.Words.{bit}
+use Rattle.lanes.specs.Columns.{Rows, Sized, placesOf, machineAt}
+use Rattle.lanes.specs.Masks.{AllMasked}
+use Rattle.lanes.specs.Post.{HandPost, f2Tick, BracketPost, DealPost}
+use Rattle.lanes.proofs.Holding.{masked-rows}
 use Rattle.sweep.specs.declared.span.Span.{Span}
-use Rattle.sweep.specs.Steps.{stateAt, Bounded, Shows, Gives, Keeps, VisitPost, valueOf, pulseIn, bracketIn}
+use Rattle.sweep.specs.Steps.{stateAt, Bounded, Shows, Gives, Keeps, Went, VisitPost, valueOf, pulseIn, bracketIn}
 use Rattle.sweep.proofs.Answers.{standard-allowed}
 use Rattle.sweep.proofs.Spans.{span-pulse, span-bracket}
 
@@ -66,45 +73,96 @@ module _ (T : Trace) (bd : Bounded T) (c u : ℕ) (le : c ≤ u) (st : stands (e
         second = second-byte;
       }
 
-module _ (m : Machine) (s : Span) (i t : ℕ) (recent : List ℕ) (base : ℕ) (values : List ℕ) (at : ℕ) (b : List ℕ) (y x : Retired) (b′ : List ℕ) where
+-- the F2 of a bracket stands at most 169 ticks behind it
+f2-low : (s : Span) (i u : ℕ) (recent : List ℕ) (base : ℕ) (values : List ℕ) → u < 65536 → f2Tick (bracketIn s i u recent base values) < 70000
+unfolding bracketIn
+f2-low s i u recent base values h = go (bit (s .at168) i) (bit (s .at167) i) (bit (s .at169) i)
+  where
+    p168 : Pulse
+    p168 = pulseIn (s .main168) i (u + 168) (valueOf recent base values (u + 169))
+
+    p167 : Pulse
+    p167 = pulseIn (s .main167) i (u + 167) (valueOf recent base values (u + 168))
+
+    p169 : Pulse
+    p169 = pulseIn (s .main169) i (u + 169) (valueOf recent base values (u + 170))
+
+    go : (a b c : Bool) → f2Tick (cond a (With p168) (cond b (With p167) (cond c (With p169) Without))) < 70000
+    go true b c = omega arith
+    go false true c = omega arith
+    go false false true = omega arith
+    go false false false = omega arith
+
+-- the columns of a state
+live-places : (x : Rows) (c : Counts) (S : State) → machineAt x c ≡ machineOf S → placesOf x ≡ placed (S .live)
+live-places x c S e = λ i. e i .places
+
+module _ (x : Rows) (c : Counts) (s : Span) (i t : ℕ) (recent : List ℕ) (base : ℕ) (values : List ℕ) (at : ℕ) (b : List ℕ) (x₁ : Rows) (r : ℕ) (b′ : List ℕ) (x₂ : Rows) (c′ : Counts)
+    (w′ : List ℕ) (v′ : List Float) where
+  abbrev pub left : Rows
+  left = record { f1 = x₂ .f1; marks = x₂ .marks; row = w′; level = v′; on = x₂ .on }
+
   -- what the code does at tick u
   pub record Visited (u : ℕ) : Type 0 where
-    pub retires : RetirePost m u at b y b′
-    pub takes : EdgePost (y .machine) (pulseIn (s .main) i u (valueOf recent base values (u + 1))) (bracketIn s i u recent base values) (x .machine)
-    pub place : x .at ≡ y .at
+    pub retires : HandPost x u at b x₁ r b′
+    pub brackets : BracketPost x₁ c (pulseIn (s .main) i u (valueOf recent base values (u + 1))) (bracketIn s i u recent base values) i t x₂ c′
+    pub deals : DealPost (x₂ .f1) (x₂ .row) (x₂ .level) (x₂ .on) (pulseIn (s .main) i u (valueOf recent base values (u + 1))) i w′ v′
 
-  visited : (u : ℕ) → i < 64 → Visited u → (T : Trace) → Shows T t s recent base values → t + i ≡ u + 242 → stands (edgeAt standard T u) ≡ true
-      → (c : ℕ) → c ≤ u → ((k : ℕ) → c ≤ k → k < u → stands (edgeAt standard T k) ≡ false) → m ≡ machineOf (stateAt T c)
-      → at + 18 * length (filter (ended u) (stateAt T c .live)) ≤ length b → Gives (filter (ended u) (stateAt T c .live)) (stateAt T (suc u)) at b x b′
-  visited u li h T sh z st c le none is room =
+  visited : (u : ℕ) → i < 64 → u < 65536 → t < 65000 → Visited u → Sized x → AllMasked t x → (T : Trace) → Shows T t s recent base values → t + i ≡ u + 242
+      → stands (edgeAt standard T u) ≡ true → (k : ℕ) → k ≤ u → ((j : ℕ) → k ≤ j → j < u → stands (edgeAt standard T j) ≡ false) → machineAt x c ≡ machineOf (stateAt T k)
+      → at + 18 * length (filter (ended u) (stateAt T k .live)) ≤ length b → Went (filter (ended u) (stateAt T k .live)) (stateAt T (suc u)) t at b left c′ r b′
+  unfolding stepOn retired
+  visited u li lu lt h sized masked T sh z st k le none′ is room =
       let E = edgeAt standard T in
-      let S = stateAt T c in
-      let r = h .retires in
+      let S = stateAt T k in
+      let q = queue T k in
+      let P = pulseIn (s .main) i u (valueOf recent base values (u + 1)) in
+      let B = bracketIn s i u recent base values in
+      let g = h .retires .result sized (omega arith) (S .live) (live-places x c S is) (q .four) (q .order) room in
+      let kept = h .retires .kept sized in
+      let m₁ = kept .masked t masked in
+      let l₁ = reject (ended u) (S .live) in
+      let four₁ : length l₁ ≤ 4 = omega (arith, q .four, reject-short (ended u) (S .live)) in
+      let y = h .brackets .result (kept .sized) m₁ z (f2-low s i u recent base values lu) l₁ (g .places) four₁ in
+      let d = h .deals .result (x₂ .marks) t (y .sized .row) (y .sized .level) (y .masked) z in
+      let n = bracketIf capped P B (machineAt x₁ c) in
+      let step : machineAt left c′ ≡ stepOn capped standard P B (machineAt x₁ c) =
+      λ a. record { places = (d .places ∙ (λ f. dealt capped standard P (y .machine f .places))) a; counts = y .machine a .counts } in
+      let is₁ : machineAt x₁ c ≡ machineOf (retired u S) = λ a. record { places = g .places a; counts = is a .counts } in
       let p = span-pulse T s t (sh .spanned) recent base values (sh .reads) i u li z in
-      let k = span-bracket T s t (sh .spanned) recent base values (sh .reads) i u li z in
-      let e =
-      subst (λ (B : Bracket). EdgePost (y .machine) (E u .pulse) B (x .machine)) k
-      (subst (λ (P : Pulse). EdgePost (y .machine) P (bracketIn s i u recent base values) (x .machine)) p (h .takes)) in
+      let o = span-bracket T s t (sh .spanned) recent base values (sh .reads) i u li z in
+      let post : EdgePost (machineAt x₁ c) (E u .pulse) (bracketAt standard E u) (machineAt left c′) =
+      edge-post (machineAt x₁ c) (E u .pulse) (bracketAt standard E u) (machineAt left c′) (step ∙ (λ a. stepOn capped standard (p a) (o a) (machineAt x₁ c))) in
       record {
-        machine =
-            e .result (retired u S) (r .machine S is (queue T c) room) (fits T (sh .bounded) c u le st)
-            ∙ ap machineOf (visit standard E (edge-timed standard T) c u le none st);
-        place = h .place ∙ r .place S is (queue T c) room;
-        buffer = r .buffer S is (queue T c) room;
+        gives =
+            record {
+              machine = post .result (retired u S) is₁ (fits T (sh .bounded) k u le st) ∙ ap machineOf (visit standard E (edge-timed standard T) k u le none′ st);
+              place = g .place;
+              buffer = g .buffer;
+            };
+        sized =
+            record { f1 = y .sized .f1; marks = y .sized .marks; row = d .row-size; level = d .level-size; on = y .sized .on };
+        masked = masked-rows (x₂ .f1) (x₂ .marks) (x₂ .row) (x₂ .level) w′ v′ (x₂ .on) t lt (y .masked);
       }
 
   -- a visit, where the code's tick is that of the span
-  pub visit-law : (u : ℕ) → i < 64 → ((v : ℕ) → t + i ≡ v + 242 → u ≡ v) → Visited u → VisitPost m s i t recent base values at b x b′
-  visit-law u li tick h =
+  pub visit-law : (u : ℕ) → i < 64 → u < 65536 → t < 65000 → ((v : ℕ) → t + i ≡ v + 242 → u ≡ v) → Visited u → VisitPost x c s i t recent base values at b left c′ r b′
+  visit-law u li lu lt tick h =
       record {
-        keeps = record { same = h .retires .same; inside = λ l. omega (arith, h .retires .inside l, h .place) };
-        result = λ T sh v z st c le none is room. visited v li (subst Visited (tick v z) h) T sh z st c le none is room;
+        keeps = record { same = h .retires .same; inside = h .retires .inside };
+        result = λ sized masked T sh v z st k le none′ is room.
+            visited v li (omega (arith, tick v z)) lt (subst Visited (tick v z) h) sized masked T sh z st k le none′ is room;
       }
 
 -- the edge and the bracket as the code has them
-pub takes-as : (m m′ : Machine) (e : Pulse) (b : Bracket) (s : Span) (i u v : ℕ) (recent : List ℕ) (base : ℕ) (values : List ℕ) → EdgePost m e b m′
-    → e ≡ pulseIn (s .main) i u v → v ≡ valueOf recent base values (u + 1) → b ≡ bracketIn s i u recent base values
-    → EdgePost m (pulseIn (s .main) i u (valueOf recent base values (u + 1))) (bracketIn s i u recent base values) m′
-takes-as m m′ e b s i u v recent base values h p q k =
-    subst (λ (B : Bracket). EdgePost m (pulseIn (s .main) i u (valueOf recent base values (u + 1))) B m′) k
-    (subst (λ (P : Pulse). EdgePost m P b m′) (p ∙ ap (pulseIn (s .main) i u) q) h)
+pub bracket-as : (x : Rows) (c : Counts) (e : Pulse) (b : Bracket) (i t : ℕ) (x′ : Rows) (c′ : Counts) (s : Span) (u v : ℕ) (recent : List ℕ) (base : ℕ) (values : List ℕ)
+    → BracketPost x c e b i t x′ c′ → e ≡ pulseIn (s .main) i u v → v ≡ valueOf recent base values (u + 1) → b ≡ bracketIn s i u recent base values
+    → BracketPost x c (pulseIn (s .main) i u (valueOf recent base values (u + 1))) (bracketIn s i u recent base values) i t x′ c′
+bracket-as x c e b i t x′ c′ s u v recent base values h p q k =
+    subst (λ (B : Bracket). BracketPost x c (pulseIn (s .main) i u (valueOf recent base values (u + 1))) B i t x′ c′) k
+    (subst (λ (P : Pulse). BracketPost x c P b i t x′ c′) (p ∙ ap (pulseIn (s .main) i u) q) h)
+
+pub deal-as : (f w : List ℕ) (v : List Float) (on : List ℕ) (e : Pulse) (i : ℕ) (w′ : List ℕ) (v′ : List Float) (s : Span) (u y : ℕ) (recent : List ℕ) (base : ℕ) (values : List ℕ)
+    → DealPost f w v on e i w′ v′ → e ≡ pulseIn (s .main) i u y → y ≡ valueOf recent base values (u + 1)
+    → DealPost f w v on (pulseIn (s .main) i u (valueOf recent base values (u + 1))) i w′ v′
+deal-as f w v on e i w′ v′ s u y recent base values h p q = subst (λ (P : Pulse). DealPost f w v on P i w′ v′) (p ∙ ap (pulseIn (s .main) i u) q) h

@@ -11,21 +11,27 @@ use lib.ListN.{length, length-append}
 use borrow.Author.Tests.{ltb-true, ltb-false, leb-true, leb-false}
 use Rattle.rules.specs.declared.Reply.{Reply}
 use Rattle.rules.specs.declared.Machine.{Machine}
+use Rattle.rules.specs.declared.Counts.{Counts}
+use Rattle.rules.specs.declared.Places.{Places}
 use Rattle.rules.specs.Settings.{standard}
-use Rattle.rules.specs.Lists.{filter}
+use Rattle.rules.specs.Lists.{All, filter}
 use Rattle.rules.specs.Samples.{Trace}
 use Rattle.rules.specs.Edges.{stands, edgeAt}
-use Rattle.rules.specs.Replies.{ended}
+use Rattle.rules.specs.Replies.{f1, ended}
 use Rattle.rules.specs.Machine.{State, retired, after}
-use Rattle.rules.specs.Records.{records}
+use Rattle.rules.specs.Records.{records, replies}
 use Rattle.rules.proofs.Truth.{impossible, same-or}
 use Rattle.rules.proofs.Joining.{append-same, records-append, records-length}
+use Rattle.rules.proofs.Order.{rising-all, ordered}
 use Rattle.rules.proofs.Settled.{edge-timed}
 use Rattle.rules.proofs.Skipping.{skip-to, done-grows, visit-done, skip-done}
-use Rattle.machine.specs.Places.{machineOf}
+use Rattle.machine.specs.Places.{placeAt, placed, machineOf}
 use Rattle.records.specs.declared.Retired.{Retired}
 use Rattle.rules.specs.Buffers.{over-at}
-use Rattle.records.specs.Post.{RetirePost}
+use Rattle.records.specs.Post.{Queue, RetirePost}
+use Rattle.lanes.specs.Columns.{Rows, Sized, none, placesOf, machineAt, FitsPlace}
+use Rattle.lanes.specs.Masks.{AllMasked}
+use Rattle.lanes.specs.Post.{HandPost, LoadPost}
 use Rattle.rules.proofs.Buffers.{over-at-more, over-at-nil}
 use Rattle.edges.specs.Words.{bit, Lowest, WithoutLowest}
 use Rattle.edges.proofs.BitLaws.{zero-bit}
@@ -69,9 +75,11 @@ done-more T c₀ c d at₀ b₀ b b′ m at x l h room e g =
 
 -- ---- the loop
 
-module _ (m₀ : Machine) (s : Span) (r t : ℕ) (recent : List ℕ) (base : ℕ) (values : List ℕ) (at₀ : ℕ) (b₀ : List ℕ) where
+-- X is what else is known of m₀
+module _ (X : Type 0) (m₀ : Machine) (s : Span) (r t : ℕ) (recent : List ℕ) (base : ℕ) (values : List ℕ) (at₀ : ℕ) (b₀ : List ℕ) where
   -- the trace to which all this belongs, and what its r new ticks hand out
   pub record Given (T : Trace) (l : List Reply) : Type 0 where
+    pub extra : X
     pub shows : Shows T t s recent base values
     pub within : r ≤ t
     pub machine : m₀ ≡ machineOf (stateAt T (t - r - 178))
@@ -138,6 +146,13 @@ module _ (m₀ : Machine) (s : Span) (r t : ℕ) (recent : List ℕ) (base : ℕ
       let c′ = ap length (o .grown) ∙ length-append (stateAt T (t - r - 178) .done) (o .given) in
       omega (arith, u, a, b, c′, o .place, g .room)
 
+  -- a visit of the machine m at tick i of the span, and what it leaves
+  pub record Seen (b : List ℕ) (m : Machine) (at i : ℕ) (x : Retired) (b′ : List ℕ) : Type 0 where
+    pub keeps : Keeps at b x b′
+    pub result : (T : Trace) (l : List Reply) → Given T l → (u : ℕ) → t + i ≡ u + 242 → stands (edgeAt standard T u) ≡ true → (c : ℕ) → c ≤ u
+        → ((j : ℕ) → c ≤ j → j < u → stands (edgeAt standard T j) ≡ false) → m ≡ machineOf (stateAt T c)
+        → at + 18 * length (filter (ended u) (stateAt T c .live)) ≤ length b → Gives (filter (ended u) (stateAt T c .live)) (stateAt T (suc u)) at b x b′
+
   -- one bit
   module _ (b : List ℕ) (m : Machine) (at todo : ℕ) (w : Working b m at todo) where
     -- the lowest set bit comes after those that are worked
@@ -155,9 +170,22 @@ module _ (m₀ : Machine) (s : Span) (r t : ℕ) (recent : List ℕ) (base : ℕ
         let e = j + 242 - t in
         none-at T sh j e (omega (arith, h .below)) (omega arith) (sym (w .same e (omega arith) (omega (arith, h .below))) ∙ h .clear e (omega arith))
 
-    worked-bit : (i todo′ : ℕ) → Lowest todo i → WithoutLowest todo todo′ → (x : Retired) (b′ : List ℕ) → VisitPost m s i t recent base values at b x b′
-        → (T : Trace) (l : List Reply) → Given T l → Done T (t - r - 178) (t + suc i - 242) at₀ b₀ b′ (x .machine) (x .at)
-    worked-bit i todo′ h n x b′ v T l g =
+    -- the tick of the lowest set bit, for a trace
+    pub record At (i : ℕ) (T : Trace) : Type 0 where
+      pub u : ℕ
+      pub z : t + i ≡ u + 242
+      pub st : stands (edgeAt standard T u) ≡ true
+      pub c : ℕ
+      pub is-c : c ≡ t + w .k - 242
+      pub le : c ≤ u
+      pub none : (j : ℕ) → c ≤ j → j < u → stands (edgeAt standard T j) ≡ false
+      pub is : m ≡ machineOf (stateAt T c)
+      pub room₀ : at + 18 * length (filter (ended u) (stateAt T c .live)) ≤ length b₀
+      pub room : at + 18 * length (filter (ended u) (stateAt T c .live)) ≤ length b
+      pub grown : stateAt T (suc u) .done ≡ stateAt T c .done ++ filter (ended u) (stateAt T c .live)
+
+    pub visited-at : (i todo′ : ℕ) → Lowest todo i → WithoutLowest todo todo′ → (T : Trace) (l : List Reply) → Given T l → At i T
+    visited-at i todo′ h n T l g =
         let E = edgeAt standard T in
         let ed = edge-timed standard T in
         let o = w .state T l g in
@@ -168,15 +196,35 @@ module _ (m₀ : Machine) (s : Span) (r t : ℕ) (recent : List ℕ) (base : ℕ
         let c = t + w .k - 242 in
         let z : t + i ≡ u + 242 = omega arith in
         let st : stands (edgeAt standard T u) ≡ true = sym (span-stands T s t (g .shows .spanned) recent base values (g .shows .reads) i u (h .below) z) ∙ e in
-        let none = none-before T (g .shows) i h q in
+        let none′ = none-before T (g .shows) i h q in
         let le : c ≤ u = omega arith in
-        let d = visit-done standard E ed c u le none st in
+        let d = visit-done standard E ed c u le none′ st in
         let room = grown-room T l g (suc u) (omega (arith, h .below)) b m at c o (filter (ended u) (stateAt T c .live)) d in
-        let f = v .result T (g .shows) u z st c le none (o .machine) (omega (arith, room, w .same-length)) in
-        let s′ : suc u ≡ t + suc i - 242 = omega arith in
-        subst (λ (n : ℕ). Done T (t - r - 178) n at₀ b₀ b′ (x .machine) (x .at)) s′ (done-more T (t - r - 178) c (suc u) at₀ b₀ b b′ m at x (filter (ended u) (stateAt T c .live)) o room d f)
+        record {
+          u = u;
+          z = z;
+          st = st;
+          c = c;
+          is-c = refl;
+          le = le;
+          none = none′;
+          is = o .machine;
+          room₀ = room;
+          room = omega (arith, room, w .same-length);
+          grown = d;
+        }
 
-    pub work-next : (i todo′ : ℕ) → Lowest todo i → WithoutLowest todo todo′ → (x : Retired) (b′ : List ℕ) → VisitPost m s i t recent base values at b x b′
+    worked-bit : (i todo′ : ℕ) → Lowest todo i → WithoutLowest todo todo′ → (x : Retired) (b′ : List ℕ) → Seen b m at i x b′
+        → (T : Trace) (l : List Reply) → Given T l → Done T (t - r - 178) (t + suc i - 242) at₀ b₀ b′ (x .machine) (x .at)
+    worked-bit i todo′ h n x b′ v T l g =
+        let a = visited-at i todo′ h n T l g in
+        let o = subst (λ (y : ℕ). Done T (t - r - 178) y at₀ b₀ b m at) (sym (a .is-c)) (w .state T l g) in
+        let f = v .result T l g (a .u) (a .z) (a .st) (a .c) (a .le) (a .none) (a .is) (a .room) in
+        let s′ : suc (a .u) ≡ t + suc i - 242 = omega (arith, a .z) in
+        subst (λ (y : ℕ). Done T (t - r - 178) y at₀ b₀ b′ (x .machine) (x .at)) s′
+        (done-more T (t - r - 178) (a .c) (suc (a .u)) at₀ b₀ b b′ m at x (filter (ended (a .u)) (stateAt T (a .c) .live)) o (a .room₀) (a .grown) f)
+
+    pub work-next : (i todo′ : ℕ) → Lowest todo i → WithoutLowest todo todo′ → (x : Retired) (b′ : List ℕ) → Seen b m at i x b′
         → Working b′ (x .machine) (x .at) todo′
     work-next i todo′ h n x b′ v =
         record {
@@ -205,6 +253,11 @@ module _ (m₀ : Machine) (s : Span) (r t : ℕ) (recent : List ℕ) (base : ℕ
         buffer = o .buffer ∙ ap (λ (z : List Reply). over-at (records z) at₀ b₀) e;
       }
 
+  -- all the ticks are worked
+  pub record Ended (x : Retired) (b′ : List ℕ) : Type 0 where
+    pub keeps : Keeps at₀ b₀ x b′
+    pub result : (T : Trace) (l : List Reply) → Given T l → Gives l (stateAt T (t - 178)) at₀ b₀ x b′
+
   -- after the last bit
   module _ (b : List ℕ) (m : Machine) (at : ℕ) (w : Working b m at 0) where
     all-clear : (i : ℕ) → w .k ≤ i → i < 64 → bit (s .due) i ≡ false
@@ -215,7 +268,14 @@ module _ (m₀ : Machine) (s : Span) (r t : ℕ) (recent : List ℕ) (base : ℕ
         let e = j + 242 - t in
         none-at T sh j e (omega arith) (omega arith) (all-clear e (omega arith) (omega arith))
 
-    work-late : (x : Retired) (b′ : List ℕ) → 179 ≤ t → RetirePost m (t - 179) at b x b′ → (T : Trace) (l : List Reply) → Given T l → Gives l (stateAt T (t - 178)) at₀ b₀ x b′
+    -- what is due at the last tick is handed out
+    pub record Late (x : Retired) (b′ : List ℕ) : Type 0 where
+      pub same : length b′ ≡ length b
+      pub inside : at ≤ length b → x .at ≤ length b
+      pub result : (T : Trace) (l : List Reply) → Given T l → (S : State) → m ≡ machineOf S → Queue S → at + 18 * length (filter (ended (t - 179)) (S .live)) ≤ length b
+          → Gives (filter (ended (t - 179)) (S .live)) (retired (t - 179) S) at b x b′
+
+    work-late : (x : Retired) (b′ : List ℕ) → 179 ≤ t → Late x b′ → (T : Trace) (l : List Reply) → Given T l → Gives l (stateAt T (t - 178)) at₀ b₀ x b′
     work-late x b′ h v T l g =
         let E = edgeAt standard T in
         let ed = edge-timed standard T in
@@ -223,20 +283,16 @@ module _ (m₀ : Machine) (s : Span) (r t : ℕ) (recent : List ℕ) (base : ℕ
         let u = t - 179 in
         let c = t + w .k - 242 in
         let S = stateAt T c in
-        let none = none-after T (g .shows) h in
+        let none′ = none-after T (g .shows) h in
         let le : c ≤ suc u = omega (arith, w .to) in
         let z : suc u ≡ t - 178 = omega arith in
         let f = filter (ended u) (S .live) in
-        let d = skip-done standard E ed c u le none in
+        let d = skip-done standard E ed c u le none′ in
         let room = grown-room T l g (suc u) (omega arith) b m at c o f d in
         let room′ : at + 18 * length f ≤ length b = omega (arith, room, w .same-length) in
-        let q = queue T c in
+        let y = v .result T l g S (o .machine) (queue T c) room′ in
         let gives : Gives f (stateAt T (suc u)) at b x b′ =
-        record {
-          machine = v .machine S (o .machine) q room′ ∙ ap machineOf (skip-to standard E ed c u le none);
-          place = v .place S (o .machine) q room′;
-          buffer = v .buffer S (o .machine) q room′;
-        } in
+        record { machine = y .machine ∙ ap machineOf (skip-to standard E ed c u le none′); place = y .place; buffer = y .buffer } in
         all-given T l g x b′ (subst (λ (n : ℕ). Done T (t - r - 178) n at₀ b₀ b′ (x .machine) (x .at)) z (done-more T (t - r - 178) c (suc u) at₀ b₀ b b′ m at x f o room d gives))
 
     work-early : t < 179 → (T : Trace) (l : List Reply) → Given T l → Gives l (stateAt T (t - 178)) at₀ b₀ (record { machine = m; at = at }) b
@@ -244,16 +300,142 @@ module _ (m₀ : Machine) (s : Span) (r t : ℕ) (recent : List ℕ) (base : ℕ
         let z : t + w .k - 242 ≡ t - 178 = omega (arith, w .to) in
         all-given T l g (record { machine = m; at = at }) b (subst (λ (n : ℕ). Done T (t - r - 178) n at₀ b₀ b m at) z (w .state T l g))
 
-    pub work-end-late : (x : Retired) (b′ : List ℕ) → 179 ≤ t → RetirePost m (t - 179) at b x b′ → WorkPost m₀ s r t recent base values at₀ b₀ x b′
-    work-end-late x b′ h v =
+    pub end-late : (x : Retired) (b′ : List ℕ) → 179 ≤ t → Late x b′ → Ended x b′
+    end-late x b′ h v =
         record {
           keeps = record { same = v .same ∙ w .same-length; inside = λ l. omega (arith, v .inside (omega (arith, w .inside l, w .same-length)), w .same-length) };
-          result = λ T sh le is l e room. work-late x b′ h v T l (record { shows = sh; within = le; machine = is; done = e; room = room });
+          result = work-late x b′ h v;
         }
 
-    pub work-end-early : t < 179 → WorkPost m₀ s r t recent base values at₀ b₀ (record { machine = m; at = at }) b
-    work-end-early h =
+    pub end-early : t < 179 → Ended (record { machine = m; at = at }) b
+    end-early h = record { keeps = record { same = w .same-length; inside = w .inside }; result = work-early h }
+
+-- ---- no edge is due: the machine stays as it is
+
+pub retires-late : (X : Type 0) (m₀ : Machine) (s : Span) (r t : ℕ) (recent : List ℕ) (base : ℕ) (values : List ℕ) (at : ℕ) (b : List ℕ)
+    (w : Working X m₀ s r t recent base values at b b m₀ at 0) (x : Retired) (b′ : List ℕ) → RetirePost m₀ (t - 179) at b x b′
+    → Late X m₀ s r t recent base values at b b m₀ at w x b′
+retires-late X m₀ s r t recent base values at b w x b′ v =
+    record {
+      same = v .same;
+      inside = v .inside;
+      result = λ T l g S is q room. record { machine = v .machine S is q room; place = v .place S is q room; buffer = v .buffer S is q room };
+    }
+
+pub plain-end : (m : Machine) (s : Span) (r t : ℕ) (recent : List ℕ) (base : ℕ) (values : List ℕ) (at : ℕ) (b : List ℕ) (x : Retired) (b′ : List ℕ)
+    → Ended (Unit {0}) m s r t recent base values at b x b′ → WorkPost m s r t recent base values at b x b′
+plain-end m s r t recent base values at b x b′ h =
+    record {
+      keeps = h .keeps;
+      result = λ T sh le is l e room. h .result T l (record { extra = tt; shows = sh; within = le; machine = is; done = e; room = room });
+    }
+
+-- ---- the columns
+
+-- x₀ are the columns at the start
+module _ (s : Span) (r t : ℕ) (recent : List ℕ) (base : ℕ) (values : List ℕ) (at₀ : ℕ) (b₀ : List ℕ) (x₀ : Rows) where
+  abbrev pub Ready : Type 0
+  Ready = Sized x₀ × AllMasked t x₀
+
+  pub record Rowed (c₀ : Counts) (b : List ℕ) (x : Rows) (c : Counts) (at todo : ℕ) : Type 0 where
+    pub work : Working Ready (machineAt x₀ c₀) s r t recent base values at₀ b₀ b (machineAt x c) at todo
+    pub rows : (T : Trace) (l : List Reply) → Given Ready (machineAt x₀ c₀) s r t recent base values at₀ b₀ T l → Sized x × AllMasked t x
+
+  pub rowed-start : (c₀ : Counts) (todo : ℕ) → r ≤ 64 → TopPost (s .due) r todo → Rowed c₀ b₀ x₀ c₀ at₀ todo
+  rowed-start c₀ todo h p =
+      record { work = work-start Ready (machineAt x₀ c₀) s r t recent base values at₀ b₀ todo h p; rows = λ T l g. g .extra }
+
+  module _ (c₀ : Counts) (b : List ℕ) (x : Rows) (c : Counts) (at todo : ℕ) (w : Rowed c₀ b x c at todo) where
+    seen : (i : ℕ) (x′ : Rows) (c′ : Counts) (e : ℕ) (b′ : List ℕ) → VisitPost x c s i t recent base values at b x′ c′ e b′
+        → Seen Ready (machineAt x₀ c₀) s r t recent base values at₀ b₀ b (machineAt x c) at i (record { machine = machineAt x′ c′; at = e }) b′
+    seen i x′ c′ e b′ v =
         record {
-          keeps = record { same = w .same-length; inside = w .inside };
-          result = λ T sh le is l e room. work-early h T l (record { shows = sh; within = le; machine = is; done = e; room = room });
+          keeps = v .keeps;
+          result = λ T l g u q st k le off is room.
+              let y = w .rows T l g in v .result (y .0) (y .1) T (g .shows) u q st k le off is room .gives;
         }
+
+    pub rowed-next : (i todo′ : ℕ) → Lowest todo i → WithoutLowest todo todo′ → (x′ : Rows) (c′ : Counts) (e : ℕ) (b′ : List ℕ)
+        → VisitPost x c s i t recent base values at b x′ c′ e b′ → Rowed c₀ b′ x′ c′ e todo′
+    rowed-next i todo′ h n x′ c′ e b′ v =
+        record {
+          work =
+              work-next Ready (machineAt x₀ c₀) s r t recent base values at₀ b₀ b (machineAt x c) at todo (w .work) i todo′ h n (record { machine = machineAt x′ c′; at = e }) b′
+              (seen i x′ c′ e b′ v);
+          rows = λ T l g.
+              let y = w .rows T l g in
+              let a = visited-at Ready (machineAt x₀ c₀) s r t recent base values at₀ b₀ b (machineAt x c) at todo (w .work) i todo′ h n T l g in
+              let q = v .result (y .0) (y .1) T (g .shows) (a .u) (a .z) (a .st) (a .c) (a .le) (a .none) (a .is) (a .room) in
+              (q .sized, q .masked);
+        }
+
+  -- at the end what is due is handed out from the columns
+  module _ (c₀ : Counts) (b : List ℕ) (x : Rows) (c : Counts) (at : ℕ) (w : Rowed c₀ b x c at 0) where
+    rowed-late : t < 65000 → (x′ : Rows) (e : ℕ) (b′ : List ℕ) → HandPost x (t - 179) at b x′ e b′
+        → Late Ready (machineAt x₀ c₀) s r t recent base values at₀ b₀ b (machineAt x c) at (w .work) (record { machine = machineAt x′ c; at = e }) b′
+    unfolding retired
+    rowed-late lt x′ e b′ h =
+        record {
+          same = h .same;
+          inside = h .inside;
+          result = λ T l g S is q room.
+              let y = h .result (w .rows T l g .0) (omega arith) (S .live) (λ i. is i .places) (q .four) (q .order) room in
+              record { machine = λ i. record { places = y .places i; counts = is i .counts }; place = y .place; buffer = y .buffer };
+        }
+
+    pub rows-late : t < 65000 → 179 ≤ t → (x′ : Rows) (e : ℕ) (b′ : List ℕ) → HandPost x (t - 179) at b x′ e b′
+        → Ended Ready (machineAt x₀ c₀) s r t recent base values at₀ b₀ (record { machine = machineAt x′ c; at = e }) b′
+    rows-late lt h x′ e b′ p =
+        end-late Ready (machineAt x₀ c₀) s r t recent base values at₀ b₀ b (machineAt x c) at (w .work) (record { machine = machineAt x′ c; at = e }) b′ h (rowed-late lt x′ e b′ p)
+
+    pub rows-early : t < 179 → Ended Ready (machineAt x₀ c₀) s r t recent base values at₀ b₀ (record { machine = machineAt x c; at = at }) b
+    rows-early h = end-early Ready (machineAt x₀ c₀) s r t recent base values at₀ b₀ b (machineAt x c) at (w .work) h
+
+-- ---- the columns at the start are those of the machine
+
+all-behind : (P : Reply → Type 0) (d l : List Reply) → All P (d ++ l) → All P l
+all-behind P [] l h = h
+all-behind P (x ∷ d) l h = all-behind P d l (h .1)
+
+-- F1 of an open reply is a tick of the sweep
+live-low : (T : Trace) (c : ℕ) → All (λ r. (0 ≤ f1 r) × (f1 r < c)) (stateAt T c .live)
+live-low T c =
+    let o = ordered standard (edgeAt standard T) (edge-timed standard T) c in
+    all-behind (λ r. (0 ≤ f1 r) × (f1 r < c)) (stateAt T c .done) (stateAt T c .live) (rising-all 0 c (replies (stateAt T c)) (o .rising))
+
+fits-place : (c : ℕ) → c < none → (l : List Reply) → All (λ r. (0 ≤ f1 r) × (f1 r < c)) l → (j : ℕ) → FitsPlace (placeAt j l)
+fits-place c h [] a j = tt
+fits-place c h (r ∷ l) a zero = omega (arith, a .0 .1)
+fits-place c h (r ∷ l) a (suc j) = fits-place c h l (a .1) j
+
+pub rows-end : (m : Machine) (s : Span) (r t : ℕ) (recent : List ℕ) (base : ℕ) (values : List ℕ) (at₀ : ℕ) (b₀ : List ℕ) (z x₀ : Rows) → t < 65000 → Sized z → LoadPost z (m .places) t x₀
+    → (x : Retired) (b′ : List ℕ) → Ended (Sized x₀ × AllMasked t x₀) (machineAt x₀ (m .counts)) s r t recent base values at₀ b₀ x b′ → WorkPost m s r t recent base values at₀ b₀ x b′
+rows-end m s r t recent base values at₀ b₀ z x₀ lt sz load x b′ h =
+    record {
+      keeps = h .keeps;
+      result = λ T sh le is l e room.
+          let c = t - r - 178 in
+          let a = live-low T c in
+          let n : c < none = omega arith in
+          let p : m .places ≡ placed (stateAt T c .live) = λ i. is i .places in
+          let fit : (j : ℕ) → FitsPlace (placeAt j (stateAt T c .live)) = fits-place c n (stateAt T c .live) a in
+          let y =
+          load .result sz (subst FitsPlace (λ i. sym p i .p0) (fit 0)) (subst FitsPlace (λ i. sym p i .p1) (fit 1)) (subst FitsPlace (λ i. sym p i .p2) (fit 2))
+          (subst FitsPlace (λ i. sym p i .p3) (fit 3)) in
+          h .result T l
+          (record {
+            extra = (y .sized, y .masked);
+            shows = sh;
+            within = le;
+            machine = (λ i. record { places = y .places i; counts = m .counts }) ∙ is;
+            done = e;
+            room = room;
+          });
+    }
+
+-- the places as the code has them
+pub ended-as : (X : Type 0) (m₀ : Machine) (s : Span) (r t : ℕ) (recent : List ℕ) (base : ℕ) (values : List ℕ) (at₀ : ℕ) (b₀ : List ℕ) (x : Rows) (c : Counts) (e : ℕ) {f : Places} {b′ : List ℕ}
+    → f ≡ placesOf x → Ended X m₀ s r t recent base values at₀ b₀ (record { machine = machineAt x c; at = e }) b′
+    → Ended X m₀ s r t recent base values at₀ b₀ (record { machine = record { places = f; counts = c }; at = e }) b′
+ended-as X m₀ s r t recent base values at₀ b₀ x c e {f} {b′} p h =
+    subst (λ (g : Places). Ended X m₀ s r t recent base values at₀ b₀ (record { machine = record { places = g; counts = c }; at = e }) b′) (sym p) h

@@ -18,6 +18,8 @@ use Rattle.rules.specs.Calls.{fresh, silence, takeRoom, closeRoom}
 use Rattle.rules.specs.declared.Counts.{Counts}
 use Rattle.rules.specs.declared.Totals.{Totals}
 use Rattle.machine.specs.Places.{test, machineOf}
+use Rattle.lanes.specs.Columns.{Rows, Sized, machineAt}
+use Rattle.lanes.specs.Masks.{AllMasked}
 use Rattle.records.specs.declared.Retired.{Retired}
 use Rattle.rules.specs.Buffers.{over-at}
 use Rattle.edges.specs.declared.packing.Planes.{Planes}
@@ -138,13 +140,20 @@ pub record Keeps (at : ℕ) (b : List ℕ) (x : Retired) (b′ : List ℕ) : Typ
   pub same : length b′ ≡ length b
   pub inside : at ≤ length b → x .at ≤ length b
 
--- a visit at tick i of the span, where an edge stands; no edge stands from tick c, up to which the machine has worked, to there
-pub record VisitPost (m : Machine) (s : Span) (i t : ℕ) (recent : List ℕ) (base : ℕ) (values : List ℕ) (at : ℕ) (b : List ℕ) (x : Retired) (b′ : List ℕ) : Type 0 where
-  pub keeps : Keeps at b x b′
-  pub result : (T : Trace) → Shows T t s recent base values → (u : ℕ) → t + i ≡ u + 242 → stands (edgeAt standard T u) ≡ true
-      → (c : ℕ) → c ≤ u → ((k : ℕ) → c ≤ k → k < u → stands (edgeAt standard T k) ≡ false) → m ≡ machineOf (stateAt T c)
-      → at + 18 * length (filter (ended u) (stateAt T c .live)) ≤ length b
-      → Gives (filter (ended u) (stateAt T c .live)) (stateAt T (suc u)) at b x b′
+-- after a visit the columns with their counts are the machine of the state, and the records of l are handed out
+pub record Went (l : List Reply) (z : State) (t at : ℕ) (b : List ℕ) (x′ : Rows) (c′ : Counts) (r : ℕ) (b′ : List ℕ) : Type 0 where
+  pub gives : Gives l z at b (record { machine = machineAt x′ c′; at = r }) b′
+  pub sized : Sized x′
+  pub masked : AllMasked t x′
+
+-- a visit at tick i of the span, where an edge stands; no edge stands from tick k, up to which the machine has worked, to there
+pub record VisitPost (x : Rows) (c : Counts) (s : Span) (i t : ℕ) (recent : List ℕ) (base : ℕ) (values : List ℕ) (at : ℕ) (b : List ℕ) (x′ : Rows) (c′ : Counts) (r : ℕ)
+    (b′ : List ℕ) : Type 0 where
+  pub keeps : Keeps at b (record { machine = machineAt x′ c′; at = r }) b′
+  pub result : Sized x → AllMasked t x → (T : Trace) → Shows T t s recent base values → (u : ℕ) → t + i ≡ u + 242 → stands (edgeAt standard T u) ≡ true
+      → (k : ℕ) → k ≤ u → ((j : ℕ) → k ≤ j → j < u → stands (edgeAt standard T j) ≡ false) → machineAt x c ≡ machineOf (stateAt T k)
+      → at + 18 * length (filter (ended u) (stateAt T k .live)) ≤ length b
+      → Went (filter (ended u) (stateAt T k .live)) (stateAt T (suc u)) t at b x′ c′ r b′
 
 -- the machine works the r ticks that became known with the last r of t ticks
 pub record WorkPost (m : Machine) (s : Span) (r t : ℕ) (recent : List ℕ) (base : ℕ) (values : List ℕ) (at : ℕ) (b : List ℕ) (x : Retired) (b′ : List ℕ) : Type 0 where

@@ -19,7 +19,6 @@ use edges::words::without_lowest;
 use lanes::columns::places_of;
 use lanes::steps;
 use lanes::steps::load;
-
 use records::Retired;
 use records::due_any;
 use records::retire;
@@ -33,12 +32,14 @@ pub struct Run {
     pub at: usize,
 }
 
-pub struct Visited {
+// The counts after a visit, and the place in the buffer behind the last record.
+struct Visited {
     pub counts: Counts,
     pub at: usize,
 }
 
-pub fn visit(
+// The columns at the i-th tick of the span, where an edge stands, once t ticks are taken.
+fn visit(
     f1: &mut [u32; 4],
     marks: &mut [u16; 4],
     row: &mut [u16; 24],
@@ -54,6 +55,8 @@ pub fn visit(
     out: &mut [u8],
     at: usize,
 ) -> Visited
+    requires { ⌜ (i < 64) × (t < 65000) ⌝ }
+    ensures { λ x. ⌜ VisitPost (record { f1 = now (f1 .entry); marks = now (marks .entry); row = now (row .entry); level = now (level .entry); on = now (on .entry) }) c s i t (now (recent .entry)) base (now (values .entry)) at (now (out .entry)) (record { f1 = now (f1 .exit); marks = now (marks .exit); row = now (row .exit); level = now (level .exit); on = now (on .exit) }) (x .counts) (x .at) (now (out .exit)) ⌝ }
 {
     let u = tick_of(t, i);
     let end = steps::retire(f1, marks, row, level, on, u, out, at);
@@ -65,8 +68,8 @@ pub fn visit(
     Visited { counts, at: end }
 }
 
-// The machine at the last r ticks of the span.
-pub fn work(
+// The machine at the last r ticks of the span: as columns, where an edge is due.
+fn work(
     m: Machine,
     s: Span,
     r: u32,
@@ -82,7 +85,10 @@ pub fn work(
 {
     let mut todo = top(s.due, r);
     if todo == 0 {
-        return finish(m, t, out, at);
+        if t < 179 {
+            return Retired { machine: m, at };
+        }
+        return retire(m, t - 179, out, at);
     }
     let mut f1 = [4294967295u32; 4];
     let mut marks = [0u16; 4];
@@ -90,32 +96,54 @@ pub fn work(
     let mut level = [0.0f64; 4];
     let mut on = [0u64; 8];
     let f = m.places;
+    load(&mut f1, &mut marks, &mut row, &mut level, &mut on, f, t);
     let mut counts = m.counts;
     let mut place = at;
-    load(&mut f1, &mut marks, &mut row, &mut level, &mut on, f, t);
     while todo != 0 {
         let i = lowest(todo);
-        let v = visit(&mut f1, &mut marks, &mut row, &mut level, &mut on, counts, s, i, t, recent, base, values, out, place);
-        counts = v.counts;
+        let v = visit(
+            &mut f1,
+            &mut marks,
+            &mut row,
+            &mut level,
+            &mut on,
+            counts,
+            s,
+            i,
+            t,
+            recent,
+            base,
+            values,
+            out,
+            place,
+        );
+        let next = v.counts;
+        counts = next;
         place = v.at;
         todo = without_lowest(todo);
     }
-    if 179 <= t {
-        place = steps::retire(&mut f1, &mut marks, &mut row, &mut level, &mut on, t - 179, out, place);
+    if t < 179 {
+        let places = places_of(&f1, &marks, &row, &level);
+        return Retired {
+            machine: Machine { places, counts },
+            at: place,
+        };
     }
+    let end = steps::retire(
+        &mut f1,
+        &mut marks,
+        &mut row,
+        &mut level,
+        &mut on,
+        t - 179,
+        out,
+        place,
+    );
     let places = places_of(&f1, &marks, &row, &level);
     Retired {
         machine: Machine { places, counts },
-        at: place,
+        at: end,
     }
-}
-
-fn finish(m: Machine, t: u32, out: &mut [u8], at: usize) -> Retired
-{
-    if t < 179 {
-        return Retired { machine: m, at };
-    }
-    retire(m, t - 179, out, at)
 }
 
 // Whether none of the planes has a flag.

@@ -1,13 +1,14 @@
 // The machine's view of 64 ticks u: words of the edges at u and at the three places of an F2, and of the M of each.
 ghost use Prim.Native.Nat.{ℕ, _+_, _<_, _≤_};
 ghost use mathlib.Core.Path.{_≡_};
-ghost use Rattle.edges.specs.Words.{bit};
+ghost use mathlib.Core.Bool.{cond};
 ghost use Rattle.sweep.specs.Steps.{SpanPost, TopPost, pulseIn, bracketIn};
 use super::front::Front;
 use super::values::value_at;
 use edges::brackets::at167;
 use edges::brackets::at168;
 use edges::brackets::due;
+use edges::words::marked;
 use edges::words::slide;
 use rules::Bracket;
 use rules::Pulse;
@@ -23,10 +24,6 @@ pub struct Span {
     pub main168: u64,
     pub main167: u64,
     pub main169: u64,
-    pub framed: u64,
-    pub less: u64,
-    pub more: u64,
-    pub main2: u64,
 }
 
 pub fn span_of(f: Front) -> Span
@@ -39,13 +36,7 @@ pub fn span_of(f: Front) -> Span
     let main168 = slide(f.m1, f.m, 55);
     let main167 = slide(f.m1, f.m, 54);
     let main169 = slide(f.m1, f.m, 56);
-    let less = u167 & !u168;
-    let more = !(u168 | u167);
     Span {
-        framed: u168 | u167 | f.e,
-        less,
-        more,
-        main2: (main168 & u168) | (main167 & less) | (main169 & more),
         due: u,
         at168: u168,
         at167: u167,
@@ -65,14 +56,6 @@ pub fn top(x: u64, r: u32) -> u64
     (x >> (64 - r)) << (64 - r)
 }
 
-// Bit i of a word.
-pub fn marked(x: u64, i: u32) -> bool
-    requires { ⌜ i < 64 ⌝ }
-    ensures { λ r. ⌜ r ≡ bit x i ⌝ }
-{
-    (x >> i) % 2 == 1
-}
-
 // The pulse at tick t, whose M is bit i of x.
 pub fn pulse_at(x: u64, i: u32, t: u32, value: u8) -> Pulse
     requires { ⌜ i < 64 ⌝ }
@@ -86,17 +69,49 @@ pub fn pulse_at(x: u64, i: u32, t: u32, value: u8) -> Pulse
     }
 }
 
+// One of two truth values.
+fn choose(c: bool, a: bool, b: bool) -> bool
+    ensures { λ r. ⌜ r ≡ cond c a b ⌝ }
+{
+    (c & a) | (!c & b)
+}
+
+// How far behind an edge its F2 stands: 168 ticks, else 167, else 169.
+fn apart(at168: bool, at167: bool) -> u32
+    ensures is { λ d. ⌜ d ≡ cond at168 168 (cond at167 167 169) ⌝ }
+    ensures most { λ d. ⌜ d ≤ 169 ⌝ }
+{
+    if at168 {
+        return 168;
+    }
+    if at167 {
+        return 167;
+    }
+    169
+}
+
 // The bracket at tick u, the i-th of the span.
 pub fn bracket_at(s: Span, i: u32, u: u32, recent: &[u8; 256], base: u32, values: &[u8]) -> Bracket
     requires { ⌜ (i < 64) × (u < 65536) ⌝ }
     ensures { λ r. ⌜ r ≡ bracketIn s i u (now (recent .entry)) base (now (values .entry)) ⌝ }
 {
-    if !marked(s.framed, i) {
+    let a = marked(s.at168, i);
+    let b = marked(s.at167, i);
+    let c = marked(s.at169, i);
+    if !(a | (b | c)) {
         return Bracket::Without;
     }
-    let w = u + 168 + ((s.more >> i) % 2) as u32 - ((s.less >> i) % 2) as u32;
-    let v = value_at(recent, base, values, w + 1);
-    let f = pulse_at(s.main2, i, w, v);
+    let x = marked(s.main168, i);
+    let y = marked(s.main167, i);
+    let z = marked(s.main169, i);
+    let main = choose(a, x, choose(b, y, z));
+    let d = apart(a, b);
+    let value = value_at(recent, base, values, u + d + 1);
+    let f = Pulse {
+        tick: Tick(u + d),
+        main,
+        value,
+    };
     Bracket::With(f)
 }
 

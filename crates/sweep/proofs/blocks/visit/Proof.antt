@@ -1,52 +1,57 @@
-use Rattle.sweep.proofs.Visiting.{visit-law, takes-as}
-use mathlib.Core.Path.{refl}
-use borrow.Author.Needs.{needs}
+use Rattle.sweep.proofs.Visiting.{visit-law, bracket-as, deal-as}
+use mathlib.Core.Path.{refl, sym, ap, _∙_}
+use native.Mathlib.Omega.{arith}
 use Rattle.sweep.proofs.blocks.visit.Statement.{statement}
 use Rattle.sweep.proofs.blocks.visit.Tie as tie
 use Rattle.sweep.proofs.blocks.visit.Reads as reads
 use Rattle.sweep.proofs.blocks.visit.Lts as lts
-use Rattle.machine.proofs.edge_step.Reads as edge-step-reads
-use Rattle.records.proofs.retire.Reads as retire-reads
+use Rattle.lanes.proofs.steps.bracket.Reads as bracket-reads
+use Rattle.lanes.proofs.steps.deal.Reads as deal-reads
+use Rattle.lanes.proofs.steps.retire.Reads as retire-reads
 use Rattle.sweep.proofs.span.bracket_at.Reads as bracket-at-reads
 use Rattle.sweep.proofs.span.pulse_at.Reads as pulse-at-reads
 use Rattle.sweep.proofs.span.tick_of.Reads as tick-of-reads
 use Rattle.sweep.proofs.values.value_at.Reads as value-at-reads
 
--- src/blocks.rt:33:9
+-- src/blocks.rt:62:9
 tick-of-requires : tie.Need-tick-of-requires
-tick-of-requires c κs = search needs
+tick-of-requires c κs = c .before .before .pre
 
--- src/blocks.rt:34:9
+-- src/blocks.rt:63:9
 retire-requires : tie.Need-retire-requires
-retire-requires c κs = search needs
+retire-requires c κs = tt
 
--- src/blocks.rt:35:44
+-- src/blocks.rt:64:44
 add-value-at : tie.Need-add-value-at
-add-value-at c = search needs
+add-value-at c = omega (arith, c .before .before .before .before .before .before .before .before .before .tick-of .ensures .0)
 
--- src/blocks.rt:35:9
+-- src/blocks.rt:64:9
 value-at-requires : tie.Need-value-at-requires
-value-at-requires c κs = search needs
+value-at-requires c κs = tt
 
--- src/blocks.rt:36:9
+-- src/blocks.rt:65:9
 pulse-at-requires : tie.Need-pulse-at-requires
-pulse-at-requires c κs = search needs
+pulse-at-requires c κs = c .before .before .before .before .before .before .before .before .before .before .before .before .before .pre .0
 
--- src/blocks.rt:37:9
+-- src/blocks.rt:66:9
 bracket-at-requires : tie.Need-bracket-at-requires
-bracket-at-requires c κs = search needs
+bracket-at-requires c κs = (c .before .before .before .before .before .before .before .before .before .before .before .before .before .before .pre .0, c .before .before .before .before .before .before .before .before .before .before .before .tick-of .ensures .0)
 
--- src/blocks.rt:39:9
-edge-step-requires : tie.Need-edge-step-requires
-edge-step-requires c κs = search needs
+-- src/blocks.rt:67:9
+bracket-requires : tie.Need-bracket-requires
+bracket-requires c κs = c .before .before .before .before .before .before .before .before .before .before .before .before .before .before .before .before .before .before .before .before .pre
 
--- src/blocks.rt:29:1
+-- src/blocks.rt:68:5
+deal-requires : tie.Need-deal-requires
+deal-requires c κs = c .before .before .before .before .before .before .before .before .before .before .before .before .before .before .before .before .before .before .before .before .before .before .before .before .before .pre .0
+
+-- src/blocks.rt:43:1
 same-length : tie.Need-same-length
-same-length c = search needs
+same-length c = c .before .before .before .before .before .before .before .before .before .before .before .before .before .before .before .before .retire .ensures .same
 
--- src/blocks.rt:29:1
+-- src/blocks.rt:43:1
 returns : tie.Need-returns
-returns c = visit-law (c .before .before .before .before .before .before .before .before .before .before .before .before .args .m) (c .before .before .before .before .before .before .before .before .before .before .before .before .args .s) (c .before .before .before .before .before .before .before .before .before .before .before .before .args .i) (c .before .before .before .before .before .before .before .before .before .before .before .before .args .t) (c .before .before .before .before .before .before .before .before .before .before .before .before .args .recent .now) (c .before .before .before .before .before .before .before .before .before .before .before .before .args .base) (c .before .before .before .before .before .before .before .before .before .before .before .before .args .values .now) (c .before .before .before .before .before .before .before .before .before .before .before .before .args .at) (c .before .before .before .before .before .before .before .before .before .before .before .before .args .out .now) (c .before .before .before .before .before .before .before .retire .result) _ _ (c .before .before .before .before .before .before .before .before .before .tick-of .result) (c .before .before .before .before .before .before .before .before .before .before .before .before .pre .0) (c .before .before .before .before .before .before .before .before .before .tick-of .ensures .1) (record { retires = c .before .before .before .before .before .before .before .retire .ensures; takes = takes-as _ _ _ _ (c .before .before .before .before .before .before .before .before .before .before .before .before .args .s) (c .before .before .before .before .before .before .before .before .before .before .before .before .args .i) (c .before .before .before .before .before .before .before .before .before .tick-of .result) _ (c .before .before .before .before .before .before .before .before .before .before .before .before .args .recent .now) (c .before .before .before .before .before .before .before .before .before .before .before .before .args .base) (c .before .before .before .before .before .before .before .before .before .before .before .before .args .values .now) (c .edge-step .ensures) (c .before .before .before .pulse-at .ensures) (c .before .before .before .before .value-at .ensures) (c .before .before .bracket-at .ensures); place = refl })
+returns c = visit-law (record { f1 = c .before .before .before .before .before .before .before .before .before .before .before .before .before .before .before .before .before .before .before .before .before .before .before .before .before .before .args .f1 .now; marks = c .before .before .before .before .before .before .before .before .before .before .before .before .before .before .before .before .before .before .before .before .before .before .before .before .before .before .args .marks .now; row = c .before .before .before .before .before .before .before .before .before .before .before .before .before .before .before .before .before .before .before .before .before .before .before .before .before .before .args .row .now; level = c .before .before .before .before .before .before .before .before .before .before .before .before .before .before .before .before .before .before .before .before .before .before .before .before .before .before .args .level .now; on = c .before .before .before .before .before .before .before .before .before .before .before .before .before .before .before .before .before .before .before .before .before .before .before .before .before .before .args .on .now }) (c .before .before .before .before .before .before .before .before .before .before .before .before .before .before .before .before .before .before .before .before .before .before .before .before .before .before .args .c) (c .before .before .before .before .before .before .before .before .before .before .before .before .before .before .before .before .before .before .before .before .before .before .before .before .before .before .args .s) (c .before .before .before .before .before .before .before .before .before .before .before .before .before .before .before .before .before .before .before .before .before .before .before .before .before .before .args .i) (c .before .before .before .before .before .before .before .before .before .before .before .before .before .before .before .before .before .before .before .before .before .before .before .before .before .before .args .t) (c .before .before .before .before .before .before .before .before .before .before .before .before .before .before .before .before .before .before .before .before .before .before .before .before .before .before .args .recent .now) (c .before .before .before .before .before .before .before .before .before .before .before .before .before .before .before .before .before .before .before .before .before .before .before .before .before .before .args .base) (c .before .before .before .before .before .before .before .before .before .before .before .before .before .before .before .before .before .before .before .before .before .before .before .before .before .before .args .values .now) (c .before .before .before .before .before .before .before .before .before .before .before .before .before .before .before .before .before .before .before .before .before .before .before .before .before .before .args .at) (c .before .before .before .before .before .before .before .before .before .before .before .before .before .before .before .before .before .before .before .before .before .before .before .before .before .before .args .out .now) _ _ _ _ _ _ _ (c .before .before .before .before .before .before .before .before .before .before .before .before .before .before .before .before .before .before .before .before .before .before .before .tick-of .result) (c .before .before .before .before .before .before .before .before .before .before .before .before .before .before .before .before .before .before .before .before .before .before .before .before .before .before .pre .0) (c .before .before .before .before .before .before .before .before .before .before .before .before .before .before .before .before .before .before .before .before .before .before .before .tick-of .ensures .0) (c .before .before .before .before .before .before .before .before .before .before .before .before .before .before .before .before .before .before .before .before .before .before .before .before .before .before .pre .1) (c .before .before .before .before .before .before .before .before .before .before .before .before .before .before .before .before .before .before .before .before .before .before .before .tick-of .ensures .1) (record { retires = c .before .before .before .before .before .before .before .before .before .before .before .before .before .before .before .before .retire .ensures; brackets = bracket-as _ _ _ _ (c .before .before .before .before .before .before .before .before .before .before .before .before .before .before .before .before .before .before .before .before .before .before .before .before .before .before .args .i) (c .before .before .before .before .before .before .before .before .before .before .before .before .before .before .before .before .before .before .before .before .before .before .before .before .before .before .args .t) _ _ (c .before .before .before .before .before .before .before .before .before .before .before .before .before .before .before .before .before .before .before .before .before .before .before .before .before .before .args .s) (c .before .before .before .before .before .before .before .before .before .before .before .before .before .before .before .before .before .before .before .before .before .before .before .tick-of .result) _ (c .before .before .before .before .before .before .before .before .before .before .before .before .before .before .before .before .before .before .before .before .before .before .before .before .before .before .args .recent .now) (c .before .before .before .before .before .before .before .before .before .before .before .before .before .before .before .before .before .before .before .before .before .before .before .before .before .before .args .base) (c .before .before .before .before .before .before .before .before .before .before .before .before .before .before .before .before .before .before .before .before .before .before .before .before .before .before .args .values .now) (c .before .before .before .before .before .bracket .ensures) (c .before .before .before .before .before .before .before .before .before .before .before .before .pulse-at .ensures) (c .before .before .before .before .before .before .before .before .before .before .before .before .before .value-at .ensures) (c .before .before .before .before .before .before .before .before .before .before .before .bracket-at .ensures); deals = deal-as _ _ _ _ _ (c .before .before .before .before .before .before .before .before .before .before .before .before .before .before .before .before .before .before .before .before .before .before .before .before .before .before .args .i) _ _ (c .before .before .before .before .before .before .before .before .before .before .before .before .before .before .before .before .before .before .before .before .before .before .before .before .before .before .args .s) (c .before .before .before .before .before .before .before .before .before .before .before .before .before .before .before .before .before .before .before .before .before .before .before .tick-of .result) _ (c .before .before .before .before .before .before .before .before .before .before .before .before .before .before .before .before .before .before .before .before .before .before .before .before .before .before .args .recent .now) (c .before .before .before .before .before .before .before .before .before .before .before .before .before .before .before .before .before .before .before .before .before .before .before .before .before .before .args .base) (c .before .before .before .before .before .before .before .before .before .before .before .before .before .before .before .before .before .before .before .before .before .before .before .before .before .before .args .values .now) (c .deal .ensures) (c .before .before .before .before .before .before .before .before .before .before .before .before .pulse-at .ensures) (c .before .before .before .before .before .before .before .before .before .before .before .before .before .value-at .ensures) })
 
 pub visit-spec : {M : Type 1} → statement M
 visit-spec =
@@ -58,6 +63,7 @@ visit-spec =
     value-at-requires
     pulse-at-requires
     bracket-at-requires
-    edge-step-requires
+    bracket-requires
+    deal-requires
     same-length
     returns)
