@@ -1,6 +1,6 @@
 // Brackets, from four words of edges in a row, e3 e2 e1 e, the newest being e.
 // The ticks u at which a bracket may stand are the 64 that start 169 before the first tick of e: then u+167, u+168 and u+169 are known for all of them.
-ghost use Rattle.edges.specs.Brackets.{Due, At168, At167, Brackets};
+ghost use Rattle.edges.specs.Brackets.{Due, At168, At167};
 
 // The edges at the ticks u.
 pub fn due(e2: u64, e3: u64) -> u64
@@ -21,11 +21,4 @@ pub fn at167(e: u64, e1: u64) -> u64
     ensures { λ r. ⌜ At167 e e1 r ⌝ }
 {
     (e << 2) | (e1 >> 62)
-}
-
-// The ticks u at which a bracket stands.
-pub fn brackets(e: u64, e1: u64, e2: u64, e3: u64) -> u64
-    ensures { λ r. ⌜ Brackets e e1 e2 e3 r ⌝ }
-{
-    due(e2, e3) & (e | at168(e, e1) | at167(e, e1))
 }

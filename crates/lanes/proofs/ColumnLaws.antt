@@ -1,5 +1,5 @@
 -- Columns that are written and moved: what a row has at each column afterwards.
-use Prim.Native.Nat.{ℕ, zero, suc, _+_, _/_, _%_, _≤_, _<_}
+use Prim.Native.Nat.{ℕ, _+_, _%_, _≤_, _<_}
 use native.Mathlib.Omega.{arith}
 use mathlib.Core.Path.{_≡_, refl, sym, ap, _∙_, subst}
 use mathlib.Core.Logic.{_⊎_, inl, inr}
@@ -9,7 +9,7 @@ use lib.Dec.{eqb}
 use lib.ListN.{length, getD, set, length-set}
 use lib.Seq.{getD-set-same, getD-set-other}
 use lib.Ieee.{Float, nan}
-use borrow.Author.Tests.{eqb-true, eqb-false}
+use borrow.Author.Tests.{eqb-true}
 use Rattle.rules.specs.declared.Marks.{Marks}
 use Rattle.rules.specs.declared.Estimate.{Estimate}
 use Rattle.rules.specs.declared.Estimate.the-variants.{Lone, Average}
@@ -20,10 +20,10 @@ use Rattle.rules.specs.declared.Slot.{Slot}
 use Rattle.rules.specs.declared.Slot.the-variants.{Idle, Open}
 use Rattle.rules.specs.declared.Place.{Place}
 use Rattle.rules.specs.Replies.{f1, level}
-use Rattle.rules.proofs.Truth.{impossible, same-or}
+use Rattle.rules.proofs.Truth.{same-or}
 use Rattle.machine.specs.Places.{idle}
-use Rattle.lanes.specs.Columns.{marksNumber, marksOf, kindOf, estimateOf, Rows, Sized, none, wordAt, referenceAt, placeIn, Column, columnAt, idleColumn, FitsSlot, FitsPlace}
-use Rattle.lanes.specs.Post.{Wrote, WordPost, Put, PutPost, Moved, MovePost, Dropped, DropPost}
+use Rattle.lanes.specs.Columns.{marksNumber, marksOf, kindOf, estimateOf, Rows, Sized, none, wordAt, referenceAt, placeIn, columnAt, idleColumn, FitsSlot}
+use Rattle.lanes.specs.Post.{WordPost, PutPost, Moved, MovePost, DropPost}
 
 -- ---- marks and estimates
 

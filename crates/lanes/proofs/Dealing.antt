@@ -1,13 +1,13 @@
 -- The edge goes to the columns that cover it, one after the other; each changes only its own word and reference.
-use Prim.Native.Nat.{ℕ, zero, suc, _+_, _-_, _/_, _%_, _≤_, _<_}
+use Prim.Native.Nat.{ℕ, _+_, _-_, _/_, _%_, _≤_, _<_}
 use native.Mathlib.Omega.{arith}
-use mathlib.Core.Path.{_≡_, refl, sym, ap, _∙_, subst}
+use mathlib.Core.Path.{_≡_, refl, sym, ap, _∙_}
 use mathlib.Core.Bool.{Bool, true, false, not, _&&_, _||_, cond}
 use mathlib.Core.List.{List}
-use lib.Dec.{leb, ltb, eqb}
+use lib.Dec.{leb, eqb}
 use lib.ListN.{length, getD}
 use lib.Ieee.{Float, nan}
-use borrow.Author.Tests.{leb-true, leb-false, eqb-true, eqb-false}
+use borrow.Author.Tests.{leb-true, eqb-true, eqb-false}
 use Rattle.rules.specs.declared.Marks.{Marks}
 use Rattle.rules.specs.declared.Estimate.the-variants.{Lone, Average}
 use Rattle.rules.specs.declared.Word.{Word}
@@ -19,15 +19,15 @@ use Rattle.rules.specs.declared.Slot.{Slot}
 use Rattle.rules.specs.declared.Slot.the-variants.{Idle, Open}
 use Rattle.rules.specs.Settings.{standard}
 use Rattle.rules.specs.Samples.{bit as digit}
-use Rattle.rules.specs.Replies.{Verdict, f1, position, isPosition, isInside, covers, near, level, agrees, verdict, takes, settle, average, heardAt, bitOf}
-use Rattle.rules.proofs.Truth.{impossible, or-left, or-right, and-left, and-right}
+use Rattle.rules.specs.Replies.{Verdict, f1, position, isPosition, covers, near, level, agrees, verdict, takes, settle, average, heardAt, bitOf}
+use Rattle.rules.proofs.Truth.{impossible, or-left, or-right, and-left}
 use Rattle.replies.specs.Sums.{capped}
-use Rattle.machine.specs.Places.{test, testSlot, idle, any3, anyIn, positionSlot, positionIn, reaches, hearSlotAt, hearAt, dealt}
+use Rattle.machine.specs.Places.{test, testSlot, any3, positionIn, reaches, hearAt, dealt}
 use Rattle.machine.proofs.PlaceLaws.{covers-in, deal-by, deal-quiet}
 use Rattle.edges.specs.Words.{bit}
-use Rattle.lanes.specs.Columns.{Rows, none, marksOf, estimateOf, wordAt, referenceAt, placeIn, placesIn, columnAt}
-use Rattle.lanes.specs.Masks.{coversFrom, AllMasked}
-use Rattle.lanes.specs.Post.{Wrote, WordPost, Heard, HearPost, HearIfPost, Dealt, DealPost}
+use Rattle.lanes.specs.Columns.{none, marksOf, estimateOf, wordAt, referenceAt, placeIn, placesIn}
+use Rattle.lanes.specs.Masks.{coversFrom}
+use Rattle.lanes.specs.Post.{WordPost, Heard, HearPost, HearIfPost, Dealt, DealPost}
 use Rattle.lanes.proofs.ColumnLaws.{open-there, idle-place}
 
 -- ---- the position that covers a tick

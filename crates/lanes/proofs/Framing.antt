@@ -1,8 +1,8 @@
 -- A bracket: by the columns without the phantoms, its fate, the counts, and the reply that opens.
-use Prim.Native.Nat.{ℕ, zero, suc, _+_, _≤_, _<_}
+use Prim.Native.Nat.{ℕ, _+_, _≤_, _<_}
 use native.Mathlib.Omega.{arith}
 use mathlib.Core.Path.{_≡_, refl, sym, ap, ap₂, _∙_, subst}
-use mathlib.Core.Bool.{Bool, true, false, not, _&&_, _||_, cond}
+use mathlib.Core.Bool.{Bool, true, false, not, _&&_, _||_}
 use mathlib.Core.List.{List}
 use lib.Dec.{leb, eqb}
 use lib.Bits.{bitOr}
@@ -14,22 +14,20 @@ use Rattle.rules.specs.declared.Pulse.{Pulse}
 use Rattle.rules.specs.declared.Place.{Place}
 use Rattle.rules.specs.declared.Places.{Places}
 use Rattle.rules.specs.declared.Counts.{Counts}
-use Rattle.rules.specs.declared.Machine.{Machine}
 use Rattle.rules.specs.declared.Bracket.{Bracket}
 use Rattle.rules.specs.declared.Bracket.the-variants.{Without, With}
 use Rattle.rules.specs.declared.Fate.{Fate}
 use Rattle.rules.specs.declared.Fate.the-variants.{Sidelobe, Garbled, Lost, Opens}
 use Rattle.rules.specs.declared.Slot.the-variants.{Open}
-use Rattle.rules.specs.Lists.{reject, count}
-use Rattle.rules.specs.Replies.{f1, position, isInside, covers, inside, military, isPhantom}
+use Rattle.rules.specs.Replies.{f1, position, isInside, covers, military, isPhantom}
 use Rattle.rules.specs.Machine.{openedBy, fateBy, tally}
 use Rattle.replies.specs.Sums.{capped}
-use Rattle.machine.specs.Places.{test, always, idle, any3, anyIn, countIn, pushed, withoutBy, withoutIn, openedIn, fateIn, placesAfter, bracketOn, bracketIf, placed}
+use Rattle.machine.specs.Places.{test, always, any3, anyIn, countIn, pushed, withoutIn, openedIn, fateIn, placesAfter, bracketOn, bracketIf, placed}
 use Rattle.machine.proofs.Placed.{without-placed, count-placed}
 use Rattle.edges.specs.Words.{bit}
 use Rattle.lanes.specs.Columns.{Rows, Sized, none, placeIn, placesIn, placesOf, machineAt, columnAt}
 use Rattle.lanes.specs.Masks.{coversFrom, Masked, AllMasked, PutMasks, MaskPost}
-use Rattle.lanes.specs.Post.{Put, PutPost, Purged, PurgePost, anyOf, insideFrom, militaryFrom, freeIn, Opened, OpenPost, Stepped, FramePost, f2Tick, BracketPost}
+use Rattle.lanes.specs.Post.{Put, PutPost, Purged, PurgePost, anyOf, insideFrom, militaryFrom, freeIn, OpenPost, FramePost, BracketPost}
 use Rattle.lanes.proofs.ColumnLaws.{open-there, idle-place}
 use Rattle.lanes.proofs.Holding.{any-covered-of, any-inside-of, any-military-of, masked-column, some, some-f1}
 use Rattle.lanes.proofs.Purging.{bit-four, four-any}

@@ -1,17 +1,16 @@
 -- Replies that are over are handed out from the first column, one after the other.
-use Prim.Native.Nat.{ℕ, zero, suc, _+_, _-_, _*_, _≤_, _<_}
+use Prim.Native.Nat.{ℕ, _+_, _-_, _*_, _≤_, _<_}
 use native.Mathlib.Omega.{arith}
 use mathlib.Core.Path.{_≡_, refl, sym, ap, _∙_, subst}
 use mathlib.Core.Bool.{Bool, true, false, cond}
 use mathlib.Core.List.{List, [], _∷_, _++_, append-nil, append-assoc}
-use lib.Dec.{ltb, eqb}
+use lib.Dec.{ltb}
 use lib.ListN.{length, getD, length-append}
-use lib.Ieee.{Float}
-use borrow.Author.Tests.{ltb-true, ltb-false, eqb-true, eqb-false}
+use borrow.Author.Tests.{ltb-true}
 use Rattle.rules.specs.declared.Reply.{Reply}
 use Rattle.rules.specs.declared.Place.{Place}
-use Rattle.rules.specs.declared.Slot.the-variants.{Idle, Open}
-use Rattle.rules.specs.Lists.{All, filter, reject}
+use Rattle.rules.specs.declared.Slot.the-variants.{Open}
+use Rattle.rules.specs.Lists.{filter, reject}
 use Rattle.rules.specs.Replies.{f1, ended}
 use Rattle.rules.specs.Records.{records}
 use Rattle.rules.specs.Buffers.{over-at}
@@ -19,13 +18,12 @@ use Rattle.rules.proofs.Truth.{impossible}
 use Rattle.rules.proofs.Buffers.{over-at-nil, over-at-more}
 use Rattle.rules.proofs.ListLaws.{filter-none, reject-none}
 use Rattle.rules.proofs.Joining.{records-append, records-length}
-use Rattle.machine.specs.Places.{test, testSlot, idle, placeAt, placed}
+use Rattle.machine.specs.Places.{test, placed}
 use Rattle.records.specs.Post.{dueSlot, HandedPost, InOrder}
 use Rattle.records.proofs.Handing.{all-open}
-use Rattle.lanes.specs.Columns.{Rows, Sized, none, placeIn, placesIn, placesOf, columnAt}
-use Rattle.lanes.specs.Post.{Dropped, DropPost, Kept, Handed, HandPost}
-use Rattle.lanes.proofs.ColumnLaws.{open-there, idle-place}
-use Rattle.lanes.proofs.Holding.{place-over, Holding, holds-places, places-hold, drop-holds, drop-kept, kept-same, kept-more, some, some-f1, by-f1}
+use Rattle.lanes.specs.Columns.{Rows, Sized, none, placeIn, placesOf}
+use Rattle.lanes.specs.Post.{DropPost, Kept, Handed, HandPost}
+use Rattle.lanes.proofs.Holding.{Holding, holds-places, places-hold, drop-holds, drop-kept, kept-same, kept-more, some, some-f1, by-f1}
 
 -- ---- the test of the first column
 

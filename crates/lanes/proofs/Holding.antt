@@ -2,28 +2,22 @@
 use Prim.Native.Nat.{ℕ, zero, suc, _+_, _%_, _≤_, _<_}
 use native.Mathlib.Omega.{arith}
 use mathlib.Core.Path.{_≡_, refl, sym, ap, _∙_, subst}
-use mathlib.Core.Logic.{_⊎_, inl, inr}
-use mathlib.Core.Bool.{Bool, true, false, _&&_, _||_, cond}
+use mathlib.Core.Bool.{Bool, true, false, _||_}
 use mathlib.Core.List.{List, [], _∷_, _++_}
 use lib.Dec.{leb, ltb, eqb}
 use lib.ListN.{length, getD, length-append}
 use lib.Ieee.{Float, nan}
 use borrow.Author.Tests.{leb-true, ltb-true, ltb-false, eqb-true, eqb-false}
 use Rattle.rules.specs.declared.Reply.{Reply}
-use Rattle.rules.specs.declared.Slot.{Slot}
-use Rattle.rules.specs.declared.Slot.the-variants.{Idle, Open}
-use Rattle.rules.specs.declared.Place.{Place}
-use Rattle.rules.specs.declared.Places.{Places}
+use Rattle.rules.specs.declared.Slot.the-variants.{Open}
 use Rattle.rules.specs.declared.Estimate.the-variants.{Lone}
-use Rattle.rules.specs.Replies.{f1, position, isPosition, covers, inside, military, isPhantom, ended}
-use Rattle.rules.proofs.Truth.{impossible}
-use Rattle.machine.specs.Places.{test, testSlot, idle, any3, anyIn, placeAt, placed}
-use Rattle.lanes.specs.Columns.{Rows, Sized, none, marksOf, wordAt, referenceAt, placeIn, placesIn, placesOf, columnAt, idleColumn}
-use Rattle.lanes.specs.Masks.{coversFrom, phantomFrom, CoverMask, PhantomMask, Masked, AllMasked, PutMasks}
+use Rattle.rules.specs.Replies.{f1, position, covers, inside, military, isPhantom}
+use Rattle.machine.specs.Places.{test, idle, anyIn, placeAt, placed}
+use Rattle.lanes.specs.Columns.{Rows, Sized, none, placeIn, placesIn, placesOf, columnAt, idleColumn}
+use Rattle.lanes.specs.Masks.{coversFrom, phantomFrom, CoverMask, PhantomMask, Masked, AllMasked}
 use Rattle.lanes.specs.Post.{Dropped, Kept, anyOf, insideFrom, militaryFrom}
-use Rattle.edges.specs.Words.{bit}
 use Rattle.edges.proofs.BitLaws.{zero-bit}
-use Rattle.lanes.proofs.ColumnLaws.{open-there, idle-place, not-eqb}
+use Rattle.lanes.proofs.ColumnLaws.{open-there, idle-place}
 use Rattle.lanes.proofs.MaskLaws.{not-covered}
 
 -- ---- places of a list

@@ -1,18 +1,16 @@
 -- The words of a column are written; the four places are written one after the other, then their words.
-use Prim.Native.Nat.{ℕ, zero, suc, _+_, _%_, _≤_, _<_}
+use Prim.Native.Nat.{ℕ, zero, suc, _+_, _%_, _<_}
 use native.Mathlib.Omega.{arith}
-use mathlib.Core.Path.{_≡_, refl, sym, ap, _∙_, subst}
+use mathlib.Core.Path.{_≡_, refl, sym, _∙_, subst}
 use mathlib.Core.List.{List}
-use mathlib.Core.Bool.{Bool}
 use lib.Dec.{eqb}
 use lib.ListN.{length, getD, set, length-set}
 use lib.Seq.{getD-set-same, getD-set-other}
 use lib.Ieee.{Float}
-use Rattle.rules.specs.declared.Place.{Place}
 use Rattle.rules.specs.declared.Places.{Places}
-use Rattle.lanes.specs.Columns.{Rows, Sized, placeIn, placesIn, placesOf, columnAt, FitsPlace}
-use Rattle.lanes.specs.Masks.{CoverMask, PhantomMask, Masked, AllMasked, PutMasks, MaskPost}
-use Rattle.lanes.specs.Post.{Put, PutPost, Loaded, LoadPost}
+use Rattle.lanes.specs.Columns.{Rows, placesIn, columnAt}
+use Rattle.lanes.specs.Masks.{CoverMask, PhantomMask, Masked, PutMasks, MaskPost}
+use Rattle.lanes.specs.Post.{PutPost, LoadPost}
 use Rattle.lanes.proofs.Holding.{masked-column}
 
 pub put-masks-law : (f m on : List ℕ) (j t x y : ℕ) → j < 4 → CoverMask (getD f j 0) t x → PhantomMask (getD f j 0) (eqb (getD m j 0 % 2) 1) t y

@@ -21,7 +21,7 @@ use Rattle.edges.specs.Words.{bit}
 use Rattle.edges.proofs.BitLaws.{bit-or}
 use Rattle.lanes.specs.Columns.{Rows, Sized, placesIn, placesOf, columnAt}
 use Rattle.lanes.specs.Masks.{AllMasked}
-use Rattle.lanes.specs.Post.{DropPost, DropIfPost, Kept, Purged, PurgePost}
+use Rattle.lanes.specs.Post.{DropPost, DropIfPost, Kept, PurgePost}
 use Rattle.lanes.proofs.Holding.{place-over, place-there, Holding, holds-places, places-hold, drop-holds, drop-kept, kept-same, kept-more}
 
 -- ---- lists

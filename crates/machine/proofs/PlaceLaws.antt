@@ -1,6 +1,5 @@
 -- What the code computes of a place and of the four is what the definitions of Places say: laws that the functions' proofs cite.
-use Prim.Native.Nat.{ℕ, _+_, _%_, _≤_}
-use native.Mathlib.Omega.{arith}
+use Prim.Native.Nat.{ℕ}
 use mathlib.Core.Path.{_≡_, refl, sym, ap, _∙_}
 use mathlib.Core.Bool.{Bool, true, false, not, _&&_, _||_, cond}
 use lib.Dec.{leb, eqb}
@@ -12,9 +11,9 @@ use Rattle.rules.specs.declared.Place.{Place}
 use Rattle.rules.specs.declared.Places.{Places}
 use Rattle.rules.specs.Settings.{Settings}
 use Rattle.rules.specs.Samples.{bit}
-use Rattle.rules.specs.Replies.{Verdict, f1, position, isInside, isPosition, covers, inside, agrees, speaks, verdict, bitOf, takes, heardAt, hear}
+use Rattle.rules.specs.Replies.{f1, position, isPosition, covers, agrees, speaks, verdict, bitOf, takes, heardAt, hear}
 use Rattle.rules.proofs.Truth.{or-left, or-right}
-use Rattle.machine.specs.Places.{test, testSlot, anyIn, positionSlot, positionIn, isSettling, reaches, hearSlotAt, hearAt, hearSlot, hearIn, any3, dealt}
+use Rattle.machine.specs.Places.{test, testSlot, anyIn, positionSlot, positionIn, reaches, hearSlotAt, hearAt, hearSlot, hearIn, any3, dealt}
 use Rattle.machine.proofs.Steps.{hear-away}
 
 -- ---- truth values
@@ -29,19 +28,6 @@ any-three a b c = ap (λ (z : Bool). a || (b || z)) (or-false c)
 pub any-four : (a b c d : Bool) → (a || (b || (c || d))) ≡ (a || any3 b c d)
 any-four a b c d = ap (λ (z : Bool). a || z) (any-three b c d)
 
-if-one : (b : Bool) (x : ℕ) → x ≡ cond b 1 0 → (x % 2 ≡ cond b 1 0) × (x ≤ 1)
-if-one true x e = (omega arith, omega arith)
-if-one false x e = (omega arith, omega arith)
-
-pub count-four : (a b c d : Bool) (x y z w : ℕ) → x ≡ cond a 1 0 → y ≡ cond b 1 0 → z ≡ cond c 1 0 → w ≡ cond d 1 0
-    → (x % 2 + (y % 2 + (z % 2 + w % 2)) ≡ cond a 1 0 + (cond b 1 0 + (cond c 1 0 + cond d 1 0))) × (x % 2 + (y % 2 + (z % 2 + w % 2)) ≤ 4)
-count-four a b c d x y z w ex ey ez ew =
-    let p = if-one a x ex in
-    let q = if-one b y ey in
-    let r = if-one c z ez in
-    let s = if-one d w ew in
-    (omega arith, omega arith)
-
 -- ---- tests of a place by its position
 
 covers-slot : (u : ℕ) (s : Slot) → isPosition (positionSlot u s) ≡ testSlot (covers u) s
@@ -52,40 +38,7 @@ covers-slot u (Open r) = refl
 pub covers-in : (u : ℕ) (p : Place) → isPosition (positionIn u p) ≡ test (covers u) p
 covers-in u p = covers-slot u (p .slot)
 
-inside-slot : (u : ℕ) (s : Slot) → isInside (positionSlot u s) ≡ testSlot (inside u) s
-unfolding inside
-inside-slot u Idle = refl
-inside-slot u (Open r) = refl
-
-pub inside-in : (u : ℕ) (p : Place) → isInside (positionIn u p) ≡ test (inside u) p
-inside-in u p = inside-slot u (p .slot)
-
-reaches-slot : (u : ℕ) (s : Slot) → isSettling (positionSlot u s) ≡ testSlot (reaches u) s
-unfolding reaches
-reaches-slot u Idle = refl
-reaches-slot u (Open r) = refl
-
-pub reaches-in : (u : ℕ) (f : Places) (a b c d : ℕ) → a ≡ positionIn u (f .p0) → b ≡ positionIn u (f .p1) → c ≡ positionIn u (f .p2) → d ≡ positionIn u (f .p3)
-    → (isSettling a || any3 (isSettling b) (isSettling c) (isSettling d)) ≡ anyIn (reaches u) f
-reaches-in u f a b c d ea eb ec ed =
-    rw (ea, eb, ec, ed, reaches-slot u (f .p0 .slot), reaches-slot u (f .p1 .slot), reaches-slot u (f .p2 .slot), reaches-slot u (f .p3 .slot))
-
 -- ---- an edge that goes to a place
-
-module _ (plus : ℕ → ℕ → ℕ) (k : ℕ) (e : Pulse) (x : Verdict) (p : Place) where
-  pub hear-idle : p .slot ≡ Idle → p ≡ hearAt plus k e x p
-  hear-idle h = λ i. record { slot = (h ∙ sym (ap (hearSlotAt plus k e x) h)) i }
-
-  module _ (r : Reply) (h : p .slot ≡ Open r) where
-    pub hear-not : takes k (r .word .settled) ≡ false → p ≡ hearAt plus k e x p
-    hear-not t =
-        let same : Open r ≡ hearSlotAt plus k e x (Open r) = rw t in
-        λ i. record { slot = (h ∙ same ∙ sym (ap (hearSlotAt plus k e x) h)) i }
-
-    pub hear-taken : takes k (r .word .settled) ≡ true → (y : Reply) → y ≡ heardAt plus k e x r → record { slot = Open y } ≡ hearAt plus k e x p
-    hear-taken t y g =
-        let same : Open y ≡ hearSlotAt plus k e x (Open r) = rw t (ap Open g) in
-        λ i. record { slot = (same ∙ sym (ap (hearSlotAt plus k e x) h)) i }
 
 -- a position that is taken covers its ticks
 taken-covers : (k w : ℕ) → takes k w ≡ true → isPosition k ≡ true

@@ -1,7 +1,7 @@
 -- An edge on the machine of a state: sums of 16 bits are those of the rules, and an edge that reaches no open reply changes nothing.
 use Prim.Native.Nat.{ℕ, _+_, _-_, _%_, _^_, _<_}
 use native.Mathlib.Omega.{arith}
-use mathlib.Core.Path.{_≡_, refl, sym, ap, ap₂, _∙_}
+use mathlib.Core.Path.{_≡_, refl, ap, ap₂, _∙_}
 use mathlib.Core.Bool.{Bool, false, cond}
 use mathlib.Core.List.{List, [], _∷_, _++_}
 use Rattle.rules.specs.declared.Reply.{Reply}
@@ -18,14 +18,13 @@ use Rattle.rules.specs.Lists.{any, reject, count, All}
 use Rattle.rules.specs.Replies.{Verdict, f1, position, takes, bitOf, level, averaged, average, agrees, verdict, settle, heardAt, hear, speaks, isPhantom}
 use Rattle.rules.specs.Ranges.{Ranged}
 use Rattle.rules.specs.Machine.{State, tally, fate, opened, liveAfter, bracket, dealFrom, deal, edgeStep}
-use Rattle.rules.proofs.Truth.{or-left, or-right}
 use Rattle.rules.proofs.ListLaws.{all-reject, all-append}
 use Rattle.rules.proofs.Outcomes.{Balanced}
 use Rattle.rules.proofs.Ranges.{ranged-opened, in-range}
 use Rattle.replies.specs.Sums.{capped}
-use Rattle.machine.specs.Places.{anyIn, isSettling, reaches, stepOn, machineOf}
-use Rattle.machine.specs.Post.{Small, Fits, EdgePost, CoversPost}
-use Rattle.machine.proofs.Placed.{any-placed, step-placed}
+use Rattle.machine.specs.Places.{isSettling, reaches, stepOn, machineOf}
+use Rattle.machine.specs.Post.{Small, Fits, EdgePost}
+use Rattle.machine.proofs.Placed.{step-placed}
 
 -- ---- sums
 
@@ -146,21 +145,3 @@ module _ (plus : ℕ → ℕ → ℕ) (set : Settings) (e : Pulse) where
   pub hear-away : (other : Bool) (r : Reply) → reaches (e .tick .0) r ≡ false → hear plus set e other r ≡ r
   unfolding hear reaches
   hear-away other r h = rw (takes-not (position (f1 r) (e .tick .0)) (r .word .settled) h)
-
-  deal-away : (before l : List Reply) → any (reaches (e .tick .0)) l ≡ false → dealFrom plus set e before l ≡ l
-  deal-away before [] h = refl
-  deal-away before (r ∷ l) h =
-      ap₂ {C = List Reply} (λ x m. x ∷ m) (hear-away (any (speaks set e) (before ++ l)) r (or-left (reaches (e .tick .0) r) (any (reaches (e .tick .0)) l) h))
-      (deal-away (before ++ (r ∷ [])) l (or-right (reaches (e .tick .0) r) (any (reaches (e .tick .0)) l) h))
-
-  edge-away : (s : State) → any (reaches (e .tick .0)) (s .live) ≡ false → edgeStep plus set e Without s ≡ s
-  unfolding edgeStep deal bracket
-  edge-away s h = λ i. record { done = s .done; live = deal-away [] (s .live) h i; counts = s .counts }
-
-pub covers-post : (m : Machine) (u : ℕ) (x : Bool) → x ≡ anyIn (reaches u) (m .places) → CoversPost m u x
-covers-post m u x h =
-    record {
-      total = h;
-      result = λ no s is four e at.
-          edge-away _+_ standard e s (ap (λ (t : ℕ). any (reaches t) (s .live)) at ∙ sym (any-placed (reaches u) (s .live) four) ∙ ap (λ (n : Machine). anyIn (reaches u) (n .places)) (sym is) ∙ sym h ∙ no);
-    }

@@ -1,7 +1,6 @@
 -- What an edge makes of a machine: by the places for every machine, and by the rules for the machine of a state.
 use Prim.Native.Nat.{ℕ, _+_, _≤_, _<_}
 use mathlib.Core.Path.{_≡_}
-use mathlib.Core.Bool.{Bool, false}
 use lib.ListN.{length}
 use Rattle.rules.specs.declared.Pulse.{Pulse}
 use Rattle.rules.specs.declared.Bracket.{Bracket}
@@ -13,7 +12,7 @@ use Rattle.rules.specs.Lists.{All}
 use Rattle.rules.specs.Ranges.{Ranged}
 use Rattle.rules.specs.Machine.{State, edgeStep}
 use Rattle.replies.specs.Sums.{capped}
-use Rattle.machine.specs.Places.{anyIn, reaches, stepOn, machineOf}
+use Rattle.machine.specs.Places.{stepOn, machineOf}
 
 -- the counts are those of a sweep
 pub record Small (c : Counts) : Type 0 where
@@ -41,8 +40,3 @@ pub record EdgePost (m : Machine) (e : Pulse) (b : Bracket) (r : Machine) : Type
   pub total : r ≡ stepOn capped standard e b m
   -- for the machine of a state: the machine of the state that the rules give
   pub result : (s : State) → m ≡ machineOf s → Fits e b s → r ≡ machineOf (edgeStep _+_ standard e b s)
-
--- x says whether an edge at u, where no bracket stands, can change anything
-pub record CoversPost (m : Machine) (u : ℕ) (x : Bool) : Type 0 where
-  pub total : x ≡ anyIn (reaches u) (m .places)
-  pub result : x ≡ false → (s : State) → m ≡ machineOf s → length (s .live) ≤ 4 → (e : Pulse) → e .tick .0 ≡ u → edgeStep _+_ standard e Without s ≡ s

@@ -10,7 +10,7 @@ use lib.Ieee.{fin, binary64, ofBits}
 use borrow.Author.Tests.{lt-ltb, le-ltb, ltb-true, ltb-false, le-leb, lt-leb, leb-true, leb-false, eqb-true, eqb-false, eq-eqb, ne-eqb}
 use Rattle.rules.specs.declared.Reply.{Reply}
 use Rattle.rules.specs.Samples.{bit}
-use Rattle.rules.specs.Replies.{f1, position, isInside, ended, military, isPhantom, number, verdict, bitOf, takes}
+use Rattle.rules.specs.Replies.{f1, position, isInside, ended, military, number, verdict, bitOf, takes}
 use Rattle.rules.proofs.Truth.{and-left, and-right}
 
 -- ---- positions
@@ -98,39 +98,6 @@ module _ (q u : ℕ) (r : Reply) (e : f1 r ≡ q) where
   pub military-after : q ≤ u → leb 203 (u - q) && leb (u - q) 205 ≡ military u r
   unfolding military
   military-after h = rw (from 203 h, to 205 h)
-
-  module _ (suspect : Bool) (m : r .marks .suspect ≡ suspect) where
-    pub phantom-clean : suspect ≡ false → false ≡ isPhantom u r
-    unfolding isPhantom
-    phantom-clean s = rw (m, s)
-
-    -- a part that fails
-    second-no : (a b c d : Bool) → b ≡ false → false ≡ (a && b && c && d)
-    second-no true b c d h = rw h
-    second-no false b c d h = refl
-
-    third-no : (a b c d : Bool) → c ≡ false → false ≡ (a && b && c && d)
-    third-no true true c d h = rw h
-    third-no true false c d h = refl
-    third-no false b c d h = refl
-
-    pub phantom-before : u < q → false ≡ isPhantom u r
-    unfolding isPhantom
-    phantom-before h = second-no (r .marks .suspect) _ _ _ (lt-leb (f1 r + 10) u (omega arith))
-
-    pub phantom-after : 170 < u - q → false ≡ isPhantom u r
-    unfolding isPhantom
-    phantom-after h = third-no (r .marks .suspect) (leb (f1 r + 10) u) (leb u (f1 r + 170)) _ (lt-leb u (f1 r + 170) (omega arith))
-
-    pub phantom-by : suspect ≡ true → q ≤ u → u - q ≤ 170 → leb 10 (u - q) && leb ((u - q + 2) % 12) 4 ≡ isPhantom u r
-    unfolding isPhantom
-    phantom-by s h k =
-        let z : u - q + 2 ≡ u + 2 - f1 r = omega arith in
-        rw (m, s, from 10 h, z, le-leb u (f1 r + 170) (omega arith)) (shape (leb (f1 r + 10) u) (leb ((u + 2 - f1 r) % 12) 4))
-      where
-        shape : (a b : Bool) → (a && b) ≡ (a && true && b)
-        shape true b = refl
-        shape false b = refl
 
 -- ---- code and confidence
 

@@ -7,9 +7,8 @@ ghost use Rattle.replies.specs.Sums.{capped};
 ghost use Rattle.rules.specs.declared.Reply.{Reply};
 ghost use Rattle.rules.specs.Samples.{bit};
 ghost use Rattle.rules.specs.Settings.{standard};
-ghost use Rattle.rules.specs.Replies.{f1, position as position′, isPosition, isInside, ended as ended′, military as military′, isPhantom, level, near as near′, average, verdict, bitOf, takes as takes′, settle as settle′, heardAt};
+ghost use Rattle.rules.specs.Replies.{f1, position as position′, isInside, ended as ended′, military as military′, level, near as near′, average, verdict, bitOf, takes as takes′, settle as settle′};
 use rules::Estimate;
-use rules::Pulse;
 use rules::Reference;
 use rules::Reply;
 use rules::Word;
@@ -48,13 +47,6 @@ fn early(d: u32) -> u32
     15
 }
 
-// Position k covers its ticks.
-pub fn covers(k: u32) -> bool
-    ensures { λ x. ⌜ x ≡ isPosition k ⌝ }
-{
-    (k <= 14) | (k == 17)
-}
-
 // Position k is one of 1 to 14.
 pub fn inside(k: u32) -> bool
     ensures { λ x. ⌜ x ≡ isInside k ⌝ }
@@ -88,23 +80,6 @@ pub fn military(q: u32, u: u32) -> bool
     }
     let d = u - q;
     (203 <= d) & (d <= 205)
-}
-
-// A bracket at u removes an open reply with F1 at q.
-pub fn phantom(q: u32, suspect: bool, u: u32) -> bool
-    ensures { λ x. ⌜ ((r : Reply) → f1 r ≡ q → r .marks .suspect ≡ suspect → x ≡ isPhantom u r) ⌝ }
-{
-    if !suspect {
-        return false;
-    }
-    if u < q {
-        return false;
-    }
-    let d = u - q;
-    if 170 < d {
-        return false;
-    }
-    (10 <= d) & ((d + 2) % 12 <= 4)
 }
 
 pub fn level_of(e: Estimate) -> f64
@@ -235,25 +210,4 @@ pub fn refer(sure: bool, f: Reference, v: u8) -> Reference
         return averaged(f, v);
     }
     f
-}
-
-// The reply with position k settled by the edge e.
-pub fn heard(r: Reply, k: u32, e: Pulse, own: bool, other: bool) -> Reply
-    requires { ⌜ bitOf k ≤ 14 ⌝ }
-    ensures { λ x. ⌜ x ≡ heardAt capped k e (verdict (e .main) own other) r ⌝ }
-{
-    let code = code_of(e.main, own, other);
-    let sure = sure_of(e.main, own, other);
-    let f1 = r.f1;
-    let marks = r.marks;
-    let w = r.word;
-    let f = r.reference;
-    let word = settle(w, k, code, sure);
-    let reference = refer(sure, f, e.value);
-    Reply {
-        f1,
-        marks,
-        word,
-        reference,
-    }
 }

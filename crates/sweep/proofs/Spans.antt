@@ -1,21 +1,18 @@
 -- The machine's view of 64 ticks: the words of a span give at each tick the edge and the bracket of the rules.
 -- Values are read from the piece or from the 256 values before it; both are those of the joined trace.
-use Prim.Native.Nat.{ℕ, zero, suc, _+_, _-_, _≤_, _<_}
+use Prim.Native.Nat.{ℕ, _+_, _-_, _≤_, _<_}
 use native.Mathlib.Omega.{arith}
-use mathlib.Core.Path.{_≡_, refl, sym, ap, ap₂, _∙_, subst}
+use mathlib.Core.Path.{_≡_, refl, sym, ap, _∙_, subst}
 use mathlib.Core.Bool.{Bool, true, false, not, _&&_, _||_, cond}
-use mathlib.Core.List.{List, [], _∷_, _++_, append-assoc}
+use mathlib.Core.List.{List, _++_, append-assoc}
 use lib.Dec.{leb}
 use lib.ListN.{length, getD, drop, replicate, length-append, length-replicate, List·getD-append, List·getD-eq-default}
 use lib.Seq.{getD-drop, getD-append-add, drop-append-le, drop-drop}
 use borrow.Author.Tests.{leb-true, leb-false, le-leb, lt-leb}
-use Rattle.rules.specs.declared.Tick.{Tick}
-use Rattle.rules.specs.declared.Pulse.{Pulse}
-use Rattle.rules.specs.declared.Bracket.{Bracket}
 use Rattle.rules.specs.declared.Bracket.the-variants.{Without, With}
 use Rattle.rules.specs.Settings.{standard}
 use Rattle.rules.specs.Samples.{Trace, M}
-use Rattle.rules.specs.Edges.{Edge, stands, edgeAt}
+use Rattle.rules.specs.Edges.{stands, edgeAt}
 use Rattle.rules.specs.Machine.{bracketOf, bracketAt}
 use Rattle.rules.proofs.Truth.{impossible, or-left, or-right}
 use Rattle.edges.specs.Words.{bit, Holds, Slid}
@@ -23,9 +20,9 @@ use Rattle.edges.specs.Planes.{hasEdge}
 use Rattle.edges.specs.Brackets.{Due, At168, At167}
 use Rattle.sweep.specs.declared.front.Front.{Front}
 use Rattle.sweep.specs.declared.span.Span.{Span}
-use Rattle.sweep.specs.State.{padded, frontOf, recentOf}
+use Rattle.sweep.specs.State.{padded, recentOf}
 use Rattle.sweep.specs.Steps.{valueOf, KeepPost, Spanned, SpanPost, pulseIn, bracketIn, Reads}
-use Rattle.sweep.proofs.Growing.{padded-none, stands-padded, padded-M}
+use Rattle.sweep.proofs.Growing.{stands-padded, padded-M}
 use Rattle.sweep.proofs.Advancing.{Fronted, fronted, on}
 
 -- ---- the words of a span

@@ -1,24 +1,20 @@
 -- A block without flags, after ticks without flags, edges and M, changes nothing while no reply is due.
-use Prim.Native.Nat.{ℕ, _+_, _-_, _^_, _≤_, _<_}
+use Prim.Native.Nat.{ℕ, _+_, _-_, _≤_, _<_}
 use native.Mathlib.Omega.{arith}
-use mathlib.Core.Path.{_≡_, refl, sym, ap, _∙_, subst}
-use mathlib.Core.Logic.{_⊎_, inl, inr}
-use mathlib.Core.Bool.{Bool, true, false, _&&_}
+use mathlib.Core.Path.{_≡_, refl, sym, _∙_, subst}
+use mathlib.Core.Bool.{Bool, true, false}
 use mathlib.Core.List.{List}
 use lib.Dec.{eqb, leb}
-use lib.ListN.{length}
 use borrow.Author.Tests.{eqb-true, leb-true, leb-false}
 use Rattle.rules.specs.declared.Machine.{Machine}
 use Rattle.rules.specs.Replies.{ended}
 use Rattle.rules.proofs.Truth.{and-left, and-right}
 use Rattle.machine.specs.Places.{test}
-use Rattle.records.specs.declared.Retired.{Retired}
 use Rattle.records.proofs.Handing.{retire-none}
 use Rattle.edges.specs.declared.packing.Planes.{Planes}
-use Rattle.edges.specs.declared.detection.Past.{Past}
 use Rattle.edges.specs.Words.{bit, Holds, Slid}
 use Rattle.edges.specs.Detection.{Detected}
-use Rattle.edges.specs.Brackets.{Due, At168, At167}
+use Rattle.edges.specs.Brackets.{Due}
 use Rattle.edges.proofs.BitLaws.{zero-bit}
 use Rattle.edges.proofs.PlaneLaws.{holds-none}
 use Rattle.edges.proofs.detection.LowTicks.{skipped}
@@ -26,8 +22,8 @@ use Rattle.sweep.specs.declared.front.Front.{Front}
 use Rattle.sweep.specs.declared.span.Span.{Span}
 use Rattle.sweep.specs.declared.blocks.Run.{Run}
 use Rattle.sweep.specs.Steps.{AdvancePost, SpanPost, WorkPost, TopPost, still, bare, Stays, BlockPost}
-use Rattle.sweep.proofs.Advancing.{Slides, advance-law}
-use Rattle.sweep.proofs.Spans.{SpanMade, span-law}
+use Rattle.sweep.proofs.Advancing.{advance-law}
+use Rattle.sweep.proofs.Spans.{span-law}
 use Rattle.sweep.proofs.Working.{work-start, end-early, end-late, retires-late, plain-end}
 use Rattle.sweep.proofs.Feeding.{block-law}
 

@@ -1,25 +1,22 @@
 -- One visit of the columns: what is over is handed out, then the edge is taken. The numbers stay small enough for sums of 16 bits.
-use Prim.Native.Nat.{ℕ, zero, suc, _+_, _-_, _*_, _≤_, _<_}
+use Prim.Native.Nat.{ℕ, suc, _+_, _-_, _*_, _≤_, _<_}
 use native.Mathlib.Omega.{arith}
-use mathlib.Core.Path.{_≡_, refl, sym, ap, _∙_, subst}
+use mathlib.Core.Path.{_≡_, refl, ap, _∙_, subst}
 use mathlib.Core.Bool.{Bool, true, false, cond}
-use mathlib.Core.List.{List, [], _∷_, _++_}
+use mathlib.Core.List.{List}
 use lib.ListN.{length}
 use lib.Ieee.{Float}
 use Rattle.rules.specs.declared.Counts.{Counts}
-use Rattle.rules.specs.declared.Reply.{Reply}
 use Rattle.rules.specs.declared.Pulse.{Pulse}
 use Rattle.rules.specs.declared.Bracket.{Bracket}
 use Rattle.rules.specs.declared.Bracket.the-variants.{Without, With}
-use Rattle.rules.specs.declared.Machine.{Machine}
 use Rattle.rules.specs.Settings.{standard}
-use Rattle.rules.specs.Lists.{All, filter, reject}
-use Rattle.rules.specs.Samples.{Trace, sweepLimit}
+use Rattle.rules.specs.Lists.{filter, reject}
+use Rattle.rules.specs.Samples.{Trace}
 use Rattle.rules.specs.Edges.{stands, edgeAt}
 use Rattle.rules.specs.Ranges.{Ranged}
 use Rattle.rules.specs.Replies.{ended}
-use Rattle.rules.specs.Machine.{State, retired, bracketAt, edgeStep, after}
-use Rattle.rules.specs.Records.{replies}
+use Rattle.rules.specs.Machine.{State, retired, bracketAt, after}
 use Rattle.rules.proofs.ListLaws.{all-reject, reject-short}
 use Rattle.rules.proofs.Order.{ordered}
 use Rattle.rules.proofs.Outcomes.{after-balanced, after-found}
@@ -39,7 +36,7 @@ use Rattle.lanes.specs.Masks.{AllMasked}
 use Rattle.lanes.specs.Post.{HandPost, f2Tick, BracketPost, DealPost}
 use Rattle.lanes.proofs.Holding.{masked-rows}
 use Rattle.sweep.specs.declared.span.Span.{Span}
-use Rattle.sweep.specs.Steps.{stateAt, Bounded, Shows, Gives, Keeps, Went, VisitPost, valueOf, pulseIn, bracketIn}
+use Rattle.sweep.specs.Steps.{stateAt, Bounded, Shows, Went, VisitPost, valueOf, pulseIn, bracketIn}
 use Rattle.sweep.proofs.Answers.{standard-allowed}
 use Rattle.sweep.proofs.Spans.{span-pulse, span-bracket}
 

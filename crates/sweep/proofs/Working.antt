@@ -6,9 +6,9 @@ use mathlib.Core.Path.{_≡_, refl, sym, ap, _∙_, subst}
 use mathlib.Core.Logic.{_⊎_, inl, inr}
 use mathlib.Core.Bool.{Bool, true, false}
 use mathlib.Core.List.{List, [], _∷_, _++_, append-nil, append-assoc}
-use lib.Dec.{leb, ltb}
+use lib.Dec.{leb}
 use lib.ListN.{length, length-append}
-use borrow.Author.Tests.{ltb-true, ltb-false, leb-true, leb-false}
+use borrow.Author.Tests.{leb-true, leb-false}
 use Rattle.rules.specs.declared.Reply.{Reply}
 use Rattle.rules.specs.declared.Machine.{Machine}
 use Rattle.rules.specs.declared.Counts.{Counts}
@@ -35,10 +35,8 @@ use Rattle.lanes.specs.Post.{HandPost, LoadPost}
 use Rattle.rules.proofs.Buffers.{over-at-more, over-at-nil}
 use Rattle.edges.specs.Words.{bit, Lowest, WithoutLowest}
 use Rattle.edges.proofs.BitLaws.{zero-bit}
-use Rattle.edges.specs.Planes.{hasEdge}
 use Rattle.sweep.specs.declared.span.Span.{Span}
-use Rattle.sweep.specs.State.{padded}
-use Rattle.sweep.specs.Steps.{stateAt, Shows, Spanned, Gives, Keeps, VisitPost, WorkPost, TopPost}
+use Rattle.sweep.specs.Steps.{stateAt, Shows, Gives, Keeps, VisitPost, WorkPost, TopPost}
 use Rattle.sweep.proofs.Growing.{padded-none}
 use Rattle.sweep.proofs.Spans.{span-stands}
 use Rattle.sweep.proofs.Visiting.{queue}

@@ -2,11 +2,9 @@
 use Prim.Native.Nat.{ℕ, _+_}
 use native.Mathlib.Omega.{arith}
 use mathlib.Core.Path.{_≡_, subst}
-use mathlib.Core.Bool.{Bool, _&&_, _||_}
-use lib.Bits.{bitAnd, bitOr}
+use mathlib.Core.Bool.{Bool}
 use Rattle.edges.specs.Words.{Holds}
-use Rattle.edges.specs.Brackets.{Due, At168, At167}
-use Rattle.edges.proofs.PlaneLaws.{back, holds-and, holds-or, holds-ahead, holds-back}
+use Rattle.edges.proofs.PlaneLaws.{back, holds-ahead, holds-back}
 
 module _ {E : ℕ → Bool} (b : ℕ) {e e₁ : ℕ} (h₁ : Holds E (b + 128) e₁) (h : Holds E (b + 192) e) where
   newer : Holds E (b + 128 + 64) e
@@ -21,14 +19,3 @@ module _ {E : ℕ → Bool} (b : ℕ) {e e₁ : ℕ} (h₁ : Holds E (b + 128) e
   at167-is =
       let q : b + 128 + 62 ≡ b + 23 + 167 = omega arith in
       holds-ahead 167 (b + 23) (subst (λ (k : ℕ). Holds E k (back 2 e e₁)) q (holds-back 2 (omega arith) newer h₁))
-
--- the newest word itself
-pub at169-is : {E : ℕ → Bool} (b : ℕ) {e : ℕ} → Holds E (b + 192) e → Holds (λ u. E (u + 169)) (b + 23) e
-at169-is {E} b {e} h = let q : b + 192 ≡ b + 23 + 169 = omega arith in holds-ahead 169 (b + 23) (subst (λ (k : ℕ). Holds E k e) q h)
-
--- a bracket: an edge, with another at one of the three ticks
-pub brackets-are : (E : ℕ → Bool) (b : ℕ) {e e₁ e₂ e₃ u v w : ℕ} → Due e₂ e₃ u → At168 e e₁ v → At167 e e₁ w
-    → Holds E b e₃ → Holds E (b + 64) e₂ → Holds E (b + 128) e₁ → Holds E (b + 192) e
-    → Holds (λ u. E u && (E (u + 169) || E (u + 168) || E (u + 167))) (b + 23) (bitAnd u (bitOr (bitOr e v) w))
-brackets-are E b d s r h₃ h₂ h₁ h =
-    holds-and (d .holds E b h₃ h₂) (holds-or (holds-or (at169-is b h) (s .holds E b h₁ h)) (r .holds E b h₁ h))
