@@ -62,16 +62,16 @@ unfoldable pub valueOf : List ℕ → ℕ → List ℕ → ℕ → ℕ
 valueOf recent base values t =
     cond (leb base t) (getD values (t - base) 0) (cond (leb base (t + 256)) (getD recent (t + 256 - base) 0) 0)
 
--- n places on, as far as there are values
+-- 256 values, n places on, as far as there are values
 pub record Older (recent : List ℕ) (n : ℕ) (r : List ℕ) : Type 0 where
   pub size : length r ≡ length recent
-  pub at : (i : ℕ) → i + n < 256 → getD r i 0 ≡ getD recent (i + n) 0
+  pub at : length recent ≡ 256 → (i : ℕ) → i + n < 256 → getD r i 0 ≡ getD recent (i + n) 0
 
--- the last values, at the end
+-- the last values, at the end of 256
 pub record Newer (older values r : List ℕ) : Type 0 where
   pub size : length r ≡ length older
   pub old : (i : ℕ) → i + length values < 256 → getD r i 0 ≡ getD older i 0
-  pub new : (i : ℕ) → i < 256 → 256 ≤ i + length values → getD r i 0 ≡ getD values (i + length values - 256) 0
+  pub new : length older ≡ 256 → (i : ℕ) → i < 256 → 256 ≤ i + length values → getD r i 0 ≡ getD values (i + length values - 256) 0
 
 -- the values of the last 256 ticks once the piece is taken
 pub record KeepPost (recent : List ℕ) (values : List ℕ) (recent′ : List ℕ) : Type 0 where

@@ -9,6 +9,7 @@ use lib.Seq.{drop-drop, take-all}
 use borrow.Rule.Slice.PartMut.{midOf, postOf, putMid}
 use Rattle.rules.specs.declared.Reply.{Reply}
 use Rattle.rules.specs.Settings.{standard}
+use Rattle.rules.specs.Lists.{All}
 use Rattle.rules.specs.Samples.{Trace, _⧺_}
 use Rattle.rules.specs.Buffers.{over, over-at}
 use Rattle.rules.specs.Records.{records}
@@ -19,8 +20,11 @@ use Rattle.sweep.specs.declared.Answer.the-variants.{Accepted, Refused}
 use Rattle.sweep.specs.declared.Processor.{Processor}
 use Rattle.sweep.specs.declared.Taken.{Taken}
 use Rattle.sweep.specs.State.{Sweep, running, runningProcessor, processorOf, takenBy, isOpen, Made}
-use Rattle.sweep.specs.Post.{takeVerdict, takeAs, takeBufferAs, TakePost}
+use Rattle.sweep.specs.Post.{takeVerdict, takeAs, takeBufferAs, TakePost, QuietPost}
+use Rattle.sweep.specs.Steps.{KeepPost}
 use Rattle.sweep.proofs.Answers.{took}
+use Rattle.sweep.proofs.Operations.{recent-of}
+use Rattle.sweep.proofs.Working.{over-nil}
 use Rattle.whole.specs.declared.Reached.{Reached}
 use Rattle.whole.specs.Post.{Reaches, TakeAtPost}
 
@@ -95,3 +99,25 @@ module _ (p : Processor) (P : Trace) (at : ℕ) (b : List ℕ) (here : at ≤ le
         inside = here;
         result = λ mode azimuth T m v. absurd (true≢false (ap isRefused (sym e ∙ ap (λ (x : Taken). x .answer) (is mode azimuth T m v))));
       }
+
+-- a piece that finds nothing is taken in place
+pub piece-quiet : (p : Processor) (P : Trace) (at : ℕ) (b : List ℕ) → at ≤ length b → length (P .flags) ≡ length (P .values) → All (λ v. v ≤ 255) (P .values)
+    → (r : Bool) → QuietPost p (P .flags) r → r ≡ true → (n : ℕ) → n ≡ length (P .flags) → (kept : List ℕ) → KeepPost (p .recent) (P .values) kept
+    → TakeAtPost p P at b (record { processor = record { mode = p .mode; azimuth = p .azimuth; taken = p .taken + n; front = p .front; recent = kept; machine = p .machine }; at = at }) b
+unfolding processorOf
+piece-quiet p P at b here alike bytes r quiet is n e kept keeps =
+    record {
+      inside = here;
+      result = λ mode azimuth T m v.
+          let x = quiet .result is mode azimuth T (P .values) m alike bytes in
+          let k = keeps .result (T .values) (recent-of mode azimuth T p (made-as mode azimuth T m)) in
+          let t : p .taken + n ≡ p .taken + length (P .flags) = omega arith in
+          record {
+            processor = (λ i. record { mode = p .mode; azimuth = p .azimuth; taken = t i; front = p .front; recent = k i; machine = p .machine }) ∙ x .processor;
+            place = omega (arith, ap length (x .none-due));
+            buffer = sym (ap (λ (l : List Reply). over-at (records l) at b) (x .none-due) ∙ over-nil at b);
+          };
+    }
+  where
+    made-as : (mode azimuth : ℕ) (T : Trace) → Made (running mode azimuth T) p → p ≡ runningProcessor mode azimuth T
+    made-as mode azimuth T m = m .is

@@ -28,11 +28,12 @@ use Rattle.sweep.specs.declared.Answer.the-variants.{Accepted, Refused}
 use Rattle.sweep.specs.declared.Processor.{Processor}
 use Rattle.sweep.specs.declared.Closed.{Closed}
 use Rattle.sweep.specs.State.{Sweep, none, running, runningProcessor, processorOf, Within, Made}
-use Rattle.sweep.specs.Post.{takeVerdict, closeVerdict, closeAs, closeBufferAs, ClosePost}
+use Rattle.sweep.specs.Post.{takeVerdict, closeVerdict, closeAs, closeBufferAs, QuietPost, ClosePost}
+use Rattle.sweep.specs.Steps.{KeepPost}
 use Rattle.sweep.proofs.Answers.{standard-allowed}
 use Rattle.whole.specs.declared.Reached.{Reached}
 use Rattle.whole.specs.Post.{wholeRoom, Reaches, TakeAtPost, Taken, Takes, TakeAllPost, CloseAtPost}
-use Rattle.whole.proofs.Pieces.{isRefused, countIn, over-rest, mid-is, post-is}
+use Rattle.whole.proofs.Pieces.{isRefused, countIn, over-rest, mid-is, post-is, piece-quiet}
 
 -- ---- lists
 
@@ -40,6 +41,15 @@ all-take : (n : ℕ) (l : List ℕ) → All (λ v. v ≤ 255) l → All (λ v. v
 all-take zero l h = tt
 all-take (suc n) [] h = tt
 all-take (suc n) (x ∷ l) h = (h .0, all-take n l (h .1))
+
+all-drop : (n : ℕ) (l : List ℕ) → All (λ v. v ≤ 255) l → All (λ v. v ≤ 255) (drop n l)
+all-drop zero l h = h
+all-drop (suc n) [] h = tt
+all-drop (suc n) (x ∷ l) h = all-drop n l (h .1)
+
+-- the length of a part
+pub part-length : (l : List ℕ) (i e : ℕ) → e ≤ length l → length (take (e - i) (drop i l)) ≡ e - i
+part-length l i e h = length-take-le (e - i) (drop i l) (omega (arith, length-drop i l))
 
 pub or-left : (a b : Bool) → (a || b) ≡ false → a ≡ false
 or-left false b e = refl
@@ -193,6 +203,25 @@ module _ (p : Processor) (T : Trace) (piece : ℕ) (b₀ : List ℕ) (alike : le
 
     pub takings-next : length b′ ≡ length b → Takings p T piece b₀ (r .processor) (r .at) end b′
     takings-next l = record { size = l ∙ h .size; inside = omega (arith, post .inside, h .size); reach = here; result = now-taken }
+
+  -- one that finds nothing
+  module _ (q : Processor) (at i end : ℕ) (b : List ℕ) (h : Takings p T piece b₀ q at i b) (more : i < length (T .flags)) (step : end ≡ i + min piece (length (T .flags) - i))
+      (bytes : All (λ v. v ≤ 255) (T .values)) (r : Bool) (quiet : QuietPost q (between i end T .flags) r) (is : r ≡ true)
+      (kept : List ℕ) (keeps : KeepPost (q .recent) (between i end T .values) kept) where
+    rested : Reached
+    rested = record { processor = record { mode = q .mode; azimuth = q .azimuth; taken = q .taken + (end - i); front = q .front; recent = kept; machine = q .machine }; at = at }
+
+    nothing-found : TakeAtPost q (between i end T) at b rested b
+    unfolding rested
+    nothing-found =
+        let f : length (between i end T .flags) ≡ end - i = length-take-le (end - i) (drop i (T .flags)) (omega (arith, length-drop i (T .flags), step)) in
+        let v : length (between i end T .values) ≡ end - i = length-take-le (end - i) (drop i (T .values)) (omega (arith, length-drop i (T .values), step, alike)) in
+        piece-quiet q (between i end T) at b (omega (arith, h .inside, h .size)) (f ∙ sym v) (all-take (end - i) (drop i (T .values)) (all-drop i (T .values) bytes))
+        r quiet is (end - i) (sym f) kept keeps
+
+    pub takings-quiet : Takings p T piece b₀ (record { mode = q .mode; azimuth = q .azimuth; taken = q .taken + (end - i); front = q .front; recent = kept; machine = q .machine }) at end b
+    unfolding rested
+    takings-quiet = takings-next q at i end b h more step rested b nothing-found refl
 
   pub takings-end : (q : Processor) (at i : ℕ) (b : List ℕ) → length (T .flags) ≤ i → Takings p T piece b₀ q at i b → TakeAllPost p T piece b₀ (record { processor = q; at = at }) b
   takings-end q at i b l h =

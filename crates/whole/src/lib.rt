@@ -11,6 +11,8 @@ use rules::Totals;
 use sweep::Answer;
 use sweep::Processor;
 use sweep::close;
+use sweep::is_quiet;
+use sweep::keep;
 use sweep::open;
 use sweep::take;
 
@@ -117,6 +119,12 @@ fn take_all(p: Processor, flags: &[u8], values: &[u8], piece: usize, out: &mut [
     let mut i: usize = 0;
     while i < n {
         let end = i + least(piece, n - i);
+        if is_quiet(q, &flags[i..end]) {
+            keep(&mut q.recent, &values[i..end]);
+            q.taken = q.taken + (end - i) as u32;
+            i = end;
+            continue;
+        }
         let t = take_at(q, &flags[i..end], &values[i..end], out, at);
         q = t.processor;
         at = t.at;
