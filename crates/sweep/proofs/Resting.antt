@@ -4,7 +4,7 @@ use Prim.Native.Nat.{ℕ, zero, suc, _+_, _-_, _*_, _/_, _≤_, _<_}
 use native.Mathlib.Omega.{arith}
 use native.Mathlib.Numerals.{add-one}
 use mathlib.Core.Path.{_≡_, refl, sym, ap, _∙_, subst}
-use mathlib.Core.Bool.{Bool, true, false, not}
+use mathlib.Core.Bool.{Bool, true, false}
 use mathlib.Core.List.{List, [], _∷_, _++_}
 use lib.Dec.{ltb}
 use lib.ListN.{length, getD, replicate, length-append, length-replicate}
@@ -18,7 +18,7 @@ use Rattle.rules.specs.Samples.{Trace, _⧺_, A, P, N, M, odd, sweepLimit}
 use Rattle.rules.specs.Replies.{f1, ended}
 use Rattle.rules.specs.Calls.{takeRoom, fresh}
 use Rattle.rules.proofs.Truth.{impossible}
-use Rattle.machine.specs.Places.{testSlot, test}
+use Rattle.machine.specs.Places.{testSlot}
 use Rattle.edges.specs.declared.packing.Planes.{Planes}
 use Rattle.edges.specs.Words.{bit, HoldsPart}
 use Rattle.edges.specs.Packing.{PackedPart}
@@ -27,7 +27,7 @@ use Rattle.edges.proofs.BitLaws.{zero-bit}
 use Rattle.sweep.specs.declared.Processor.{Processor}
 use Rattle.sweep.specs.declared.blocks.Run.{Run}
 use Rattle.sweep.specs.State.{running, runningProcessor, processorOf, frontOf, recentOf, Made}
-use Rattle.sweep.specs.Steps.{still, Stays, Fed, Begins, FeedPost}
+use Rattle.sweep.specs.Steps.{still, NoneDue, Stays, Fed, Begins, FeedPost}
 use Rattle.sweep.specs.Post.{Rests, QuietPost}
 use Rattle.sweep.proofs.Staying.{stays-law}
 use Rattle.sweep.proofs.Streaming.{Feeding, feed-start, feed-next, feed-end}
@@ -64,13 +64,13 @@ not-before (Open r) u v h e = le-ltb (f1 r + 205) v (omega (arith, ltb-false (f1
 -- ---- a piece
 
 module _ (o : Run) (recent : List ℕ) (base : ℕ) (flags values b : List ℕ) (bare : (m : ℕ) → m < length flags → getD flags m 0 ≡ 0) (words : still (o .front) ≡ true)
-    (waits : 179 ≤ base + length flags → test (ended (base + length flags - 179)) (o .machine .places .p0) ≡ false) where
+    (waits : NoneDue (o .machine) (base + length flags)) where
   stays : (t : ℕ) → t ≤ base + length flags → Stays o none t
   stays t h =
       record {
         planes = refl;
         words = words;
-        open-still = λ l. not-before (o .machine .places .p0 .slot) (base + length flags - 179) (t - 179) (omega arith) (waits (omega arith));
+        waits = record { open-still = λ l. not-before (o .machine .places .p0 .slot) (base + length flags - 179) (t - 179) (omega arith) (waits .open-still (omega arith)) };
       }
 
   resting : (i : ℕ) → i ≤ length flags → Feeding o recent base flags values b b o i
@@ -90,7 +90,7 @@ no-replies [] e = refl
 no-replies (r ∷ l) e = absurd (omega arith)
 
 module _ (p : Processor) (flags : List ℕ) (limit : p .taken + length flags ≤ sweepLimit) (r : Bool) (bare : Bare flags r) (is : r ≡ true) (words : still (p .front) ≡ true)
-    (waits : 179 ≤ p .taken + length flags → test (ended (p .taken + length flags - 179)) (p .machine .places .p0) ≡ false) where
+    (waits : NoneDue (p .machine) (p .taken + length flags)) where
   module _ (mode azimuth : ℕ) (T : Trace) (values : List ℕ) (made : Made (running mode azimuth T) p) (alike : length flags ≡ length values) (bytes : All (λ v. v ≤ 255) values) where
     made-as : p ≡ runningProcessor mode azimuth T
     unfolding processorOf
@@ -133,14 +133,9 @@ module _ (p : Processor) (flags : List ℕ) (limit : p .taken + length flags ≤
           processor = λ i. record { mode = e1 i; azimuth = e2 i; taken = e3 i; front = e4 i; recent = recentOf (T .values ++ values); machine = e6 i };
         }
 
-  pub quiet-yes : (q : Bool) → QuietPost p flags q
-  quiet-yes q = record { limit = λ e. limit; result = λ e. rests }
-
 pub quiet-no : (p : Processor) (flags : List ℕ) → QuietPost p flags false
 quiet-no p flags = record { limit = λ e. absurd (impossible (sym e)); result = λ e. absurd (impossible (sym e)) }
 
--- once 179 ticks are taken a reply may be due
-pub quiet-late : (p : Processor) (flags : List ℕ) (r x : Bool) → p .taken + length flags ≤ sweepLimit → Bare flags r → r ≡ true → still (p .front) ≡ true
-    → x ≡ test (ended (p .taken + length flags - 179)) (p .machine .places .p0) → QuietPost p flags (not x)
-quiet-late p flags r true limit bare is words e = quiet-no p flags
-quiet-late p flags r false limit bare is words e = quiet-yes p flags limit r bare is words (λ h. sym e) true
+pub quiet-if : (p : Processor) (flags : List ℕ) (r x : Bool) → p .taken + length flags ≤ sweepLimit → Bare flags r → r ≡ true → still (p .front) ≡ true
+    → (x ≡ true → NoneDue (p .machine) (p .taken + length flags)) → QuietPost p flags x
+quiet-if p flags r x limit bare is words waits = record { limit = λ e. limit; result = λ e. rests p flags limit r bare is words (waits e) }

@@ -183,11 +183,22 @@ pub record BlockPost (o : Run) (x : Planes) (r t : ℕ) (recent : List ℕ) (bas
   pub inside : o .at ≤ length b → y .at ≤ length b
   pub result : (T P Q : Trace) (b₀ : List ℕ) → Fed T P b₀ o b → length (Q .flags) ≡ r → Low (Q .flags) x → Next T P Q t recent base values b₀ b → Fed T (P ⧺ Q) b₀ y b′
 
+-- no reply is due once t ticks are taken
+pub record NoneDue (m : Machine) (t : ℕ) : Type 0 where
+  pub open-still : 179 ≤ t → test (ended (t - 179)) (m .places .p0) ≡ false
+
 -- a block without flags leaves the run as it is: its words are 0, and no reply is due once t ticks are taken
 pub record Stays (o : Run) (x : Planes) (t : ℕ) : Type 0 where
   pub planes : bare x ≡ true
   pub words : still (o .front) ≡ true
-  pub open-still : 179 ≤ t → test (ended (t - 179)) (o .machine .places .p0) ≡ false
+  pub waits : NoneDue (o .machine) t
+
+-- the flags of 64 ticks past the end, and the values there: any beyond a list are 0
+abbrev pub noFlags : Planes
+noFlags = record { a = 0; p = 0; n = 0; m = 0 }
+
+abbrev pub noValues : List ℕ
+noValues = 0 ∷ []
 
 -- ---- a piece
 

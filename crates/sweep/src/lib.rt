@@ -14,6 +14,7 @@ ghost use Rattle.sweep.specs.Post.{openOf, noTotals, TakePost, QuietPost
 ghost use Rattle.sweep.specs.declared.Answer.the-variants.{Refused};
 ghost use Rattle.sweep.specs.Steps.{totalsFrom};
 use blocks::Run;
+use blocks::none_due;
 use edges::flags::has_bad;
 use edges::flags::is_bare;
 pub use front::Front;
@@ -22,7 +23,6 @@ use front::no_front;
 use machine::empty_machine;
 use pieces::drain;
 use pieces::feed;
-use records::due_any;
 use rules::Counts;
 use rules::Machine;
 use rules::Totals;
@@ -199,10 +199,7 @@ pub fn is_quiet(p: Processor, flags: &[u8]) -> bool
     if !is_bare(flags) {
         return false;
     }
-    if t < 179 {
-        return true;
-    }
-    !due_any(machine, (t - 179) as u32)
+    none_due(machine, t as u32)
 }
 
 // The totals, from the machine's counts.

@@ -1,10 +1,9 @@
 -- `is_quiet` says yes only where each tick of the piece is a block that stays.
 use native.Mathlib.Omega.{arith}
-use mathlib.Core.Bool.{true}
 use mathlib.Core.Path.{sym, _∙_}
 use borrow.Author.Tests.{not-false}
 use borrow.Author.Needs.{needs}
-use Rattle.sweep.proofs.Resting.{quiet-yes, quiet-no, quiet-late}
+use Rattle.sweep.proofs.Resting.{quiet-no, quiet-if}
 use Rattle.sweep.proofs.is_quiet.Statement.{statement}
 use Rattle.sweep.proofs.is_quiet.Tie as tie
 
@@ -32,17 +31,14 @@ is-bare-requires c κs = search needs
 returns-4 : tie.Need-returns-4
 returns-4 c = quiet-no (c .before .before .before .before .before .before .before .before .before .args .p) (c .before .before .before .before .before .before .before .before .before .args .flags .now)
 
+cast-none-due : tie.Need-cast-none-due
+cast-none-due c = search needs
+
+none-due-requires : tie.Need-none-due-requires
+none-due-requires c κs = search needs
+
 returns-5 : tie.Need-returns-5
-returns-5 c = quiet-yes (c .before .before .before .before .before .before .before .before .before .before .args .p) (c .before .before .before .before .before .before .before .before .before .before .args .flags .now) (omega (arith, c .before .before .before .before .before .if2 .left)) _ (c .before .before .is-bare .ensures) (not-false _ (c .before .if4 .left)) (sym (c .before .before .before .before .is-still .ensures) ∙ not-false _ (c .before .before .before .if3 .left)) (λ h. absurd (omega (arith, c .if5 .taken))) true
-
-cast-due-any : tie.Need-cast-due-any
-cast-due-any c = search needs
-
-due-any-requires : tie.Need-due-any-requires
-due-any-requires c κs = search needs
-
-returns-6 : tie.Need-returns-6
-returns-6 c = quiet-late (c .before .before .before .before .before .before .before .before .before .before .before .args .p) (c .before .before .before .before .before .before .before .before .before .before .before .args .flags .now) _ _ (omega (arith, c .before .before .before .before .before .before .if2 .left)) (c .before .before .before .is-bare .ensures) (not-false _ (c .before .before .if4 .left)) (sym (c .before .before .before .before .before .is-still .ensures) ∙ not-false _ (c .before .before .before .before .if3 .left)) (c .due-any .ensures .total)
+returns-5 c = quiet-if (c .before .before .before .before .before .before .before .before .before .before .args .p) (c .before .before .before .before .before .before .before .before .before .before .args .flags .now) _ _ (omega (arith, c .before .before .before .before .before .if2 .left)) (c .before .before .is-bare .ensures) (not-false _ (c .before .if4 .left)) (sym (c .before .before .before .before .is-still .ensures) ∙ not-false _ (c .before .before .before .if3 .left)) (c .none-due .ensures)
 
 pub is-quiet-spec : {M : Type 1} → statement M
 is-quiet-spec =
@@ -56,7 +52,6 @@ is-quiet-spec =
     returns-3
     is-bare-requires
     returns-4
-    returns-5
-    cast-due-any
-    due-any-requires
-    returns-6)
+    cast-none-due
+    none-due-requires
+    returns-5)
