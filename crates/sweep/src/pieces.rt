@@ -45,7 +45,7 @@ fn block_length(n: usize) -> usize
     64
 }
 
-// The run after a piece, which begins once `base` ticks are taken.
+// The run after a piece, which begins once `base` ticks are taken. A piece that would pass the limit of a sweep is not fed.
 pub fn feed(
     o: Run,
     recent: &[u8; 256],
@@ -54,10 +54,12 @@ pub fn feed(
     values: &[u8],
     out: &mut [u8],
 ) -> Run
-    requires { ⌜ base + length (now flags) ≤ 32768 ⌝ }
     ensures { λ y. ⌜ FeedPost o (now (recent .entry)) base (now (flags .entry)) (now (values .entry)) (now (out .entry)) y (now (out .exit)) ⌝ }
 {
     let n = flags.len();
+    if 32768 < base as usize + n {
+        return o;
+    }
     let mut run = o;
     let mut i: usize = 0;
     while i < n {
