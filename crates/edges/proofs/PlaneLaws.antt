@@ -107,3 +107,7 @@ module _ {F : ℕ → Bool} {b now before : ℕ} (p : Holds F (b + 64) now) (q :
 
   pub newest : (d : ℕ) → d ≤ 64 → Holds (λ t. F (t + d)) (b + (64 - d)) now
   newest d l = holds-ahead d (b + (64 - d)) (let e : b + 64 ≡ b + (64 - d) + d = omega arith in subst (λ (n : ℕ). Holds F n now) e p)
+
+-- 64 ticks on, the word is the new one
+pub holds-next : (F : ℕ → Bool) (b now r : ℕ) → r ≡ 64 → now < 2 ^ 64 → ((m : ℕ) → m < r → bit now m ≡ F (b + 64 + m)) → Holds F (b + r) now
+holds-next F b now r e h q = record { below = h; at = λ i l. let z : b + 64 + i ≡ b + r + i = omega arith in q i (omega arith) ∙ ap F z }

@@ -1,2 +1,3 @@
 pub mod BadBytes
 pub mod Bareness
+pub mod BadBlocks

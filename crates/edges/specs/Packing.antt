@@ -73,10 +73,6 @@ pub record Packed (f : List ℕ) (o : ℕ) (r : Planes) : Type 0 where
   pub n : Holds (N f) o (r .n)
   pub m : Holds (M f) o (r .m)
 
--- a word that holds i ticks of a plane holds one more, if bit k of the byte is that tick's
-pub record Put (x i byte k r : ℕ) : Type 0 where
-  pub holds : (F : ℕ → Bool) (b : ℕ) → HoldsPart F b i x → bit byte k ≡ F (b + i) → HoldsPart F b (i + 1) r
-
 -- the four planes of the r ticks from o on
 pub record PackedPart (f : List ℕ) (o r : ℕ) (x : Planes) : Type 0 where
   pub a : HoldsPart (A f) o r (x .a)

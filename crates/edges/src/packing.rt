@@ -1,8 +1,8 @@
 // From flag bytes, one a tick, to planes: a word of A, one of P, one of N, one of M.
-ghost use Prim.Native.Nat.{_+_, _<_, _≤_};
+ghost use Prim.Native.Nat.{_+_, _≤_};
 ghost use mathlib.Core.Path.{_≡_};
 ghost use lib.ListN.{length};
-ghost use Rattle.edges.specs.Packing.{Eight, Nibbles, Turn, Low, High, Packed, Put, PackedPart};
+ghost use Rattle.edges.specs.Packing.{Eight, Nibbles, Turn, Low, High, Packed, PackedPart};
 
 pub struct Planes {
     pub a: u64,
@@ -123,36 +123,16 @@ pub fn pack(flags: &[u8], o: usize) -> Planes
     }
 }
 
-// The word x with bit i set if the byte has bit k.
-fn put(x: u64, i: usize, byte: u8, k: u32) -> u64
-    requires { ⌜ (i < 64) × (k < 8) ⌝ }
-    ensures { λ r. ⌜ Put x i byte k r ⌝ }
-{
-    x | (((wide(byte) >> k) & 1) << i)
-}
-
 // The planes of the r ticks from o on, r being 64 or fewer, in the low bits; the other bits are 0.
 pub fn pack_part(flags: &[u8], o: usize, r: usize) -> Planes
     requires { ⌜ (o + r ≤ length (now flags)) × (r ≤ 64) ⌝ }
     ensures { λ x. ⌜ PackedPart (now (flags .entry)) o r x ⌝ }
 {
-    let mut a = 0u64;
-    let mut p = 0u64;
-    let mut n = 0u64;
-    let mut m = 0u64;
+    let mut block = [0u8; 64];
     let mut i = 0usize;
     while i < r {
-        let byte = flags[o + i];
-        a = put(a, i, byte, 0);
-        p = put(p, i, byte, 1);
-        n = put(n, i, byte, 2);
-        m = put(m, i, byte, 3);
+        block[i] = flags[o + i];
         i += 1;
     }
-    Planes {
-        a: a,
-        p: p,
-        n: n,
-        m: m,
-    }
+    pack(&block, 0)
 }

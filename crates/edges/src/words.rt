@@ -8,6 +8,9 @@ pub fn slide(before: u64, now: u64, r: u32) -> u64
     requires { ⌜ (0 < r) × (r ≤ 64) ⌝ }
     ensures { λ x. ⌜ Slid before now r x ⌝ }
 {
+    if r == 64 {
+        return now;
+    }
     (now << (64 - r)) | ((before >> 1) >> (r - 1))
 }
 

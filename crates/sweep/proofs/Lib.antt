@@ -12,3 +12,4 @@ pub mod Streaming
 pub mod Operations
 pub mod Opening
 pub mod Calls
+pub mod Resting

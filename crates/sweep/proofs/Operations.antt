@@ -40,27 +40,27 @@ unfolding idleProcessor runningProcessor
 idle-mode = refl
 
 module _ (mode azimuth : ℕ) (T : Trace) (p : Processor) (e : p ≡ runningProcessor mode azimuth T) where
-  mode-of : p .mode ≡ mode
+  pub mode-of : p .mode ≡ mode
   unfolding runningProcessor
   mode-of = ap (λ (q : Processor). q .mode) e
 
-  azimuth-of : p .azimuth ≡ azimuth
+  pub azimuth-of : p .azimuth ≡ azimuth
   unfolding runningProcessor
   azimuth-of = ap (λ (q : Processor). q .azimuth) e
 
-  taken-of : p .taken ≡ length (T .flags)
+  pub taken-of : p .taken ≡ length (T .flags)
   unfolding runningProcessor
   taken-of = ap (λ (q : Processor). q .taken) e
 
-  front-of : p .front ≡ frontOf (T .flags)
+  pub front-of : p .front ≡ frontOf (T .flags)
   unfolding runningProcessor
   front-of = ap (λ (q : Processor). q .front) e
 
-  recent-of : p .recent ≡ recentOf (T .values)
+  pub recent-of : p .recent ≡ recentOf (T .values)
   unfolding runningProcessor
   recent-of = ap (λ (q : Processor). q .recent) e
 
-  machine-of : p .machine ≡ machineOf (stateAt T (length (T .flags) - 178))
+  pub machine-of : p .machine ≡ machineOf (stateAt T (length (T .flags) - 178))
   unfolding runningProcessor
   machine-of = ap (λ (q : Processor). q .machine) e
 

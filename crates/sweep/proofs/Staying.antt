@@ -7,9 +7,9 @@ use mathlib.Core.List.{List}
 use lib.Dec.{eqb, leb}
 use borrow.Author.Tests.{eqb-true, leb-true, leb-false}
 use Rattle.rules.specs.declared.Machine.{Machine}
-use Rattle.rules.specs.Replies.{ended}
 use Rattle.rules.proofs.Truth.{and-left, and-right}
 use Rattle.machine.specs.Places.{test}
+use Rattle.records.specs.declared.Retired.{Retired}
 use Rattle.records.proofs.Handing.{retire-none}
 use Rattle.edges.specs.declared.packing.Planes.{Planes}
 use Rattle.edges.specs.Words.{bit, Holds, Slid}
@@ -21,7 +21,7 @@ use Rattle.edges.proofs.detection.LowTicks.{skipped}
 use Rattle.sweep.specs.declared.front.Front.{Front}
 use Rattle.sweep.specs.declared.span.Span.{Span}
 use Rattle.sweep.specs.declared.blocks.Run.{Run}
-use Rattle.sweep.specs.Steps.{AdvancePost, SpanPost, WorkPost, TopPost, still, bare, Stays, BlockPost}
+use Rattle.sweep.specs.Steps.{AdvancePost, SpanPost, WorkPost, TopPost, still, bare, NoneDue, Stays, BlockPost}
 use Rattle.sweep.proofs.Advancing.{advance-law}
 use Rattle.sweep.proofs.Spans.{span-law}
 use Rattle.sweep.proofs.Working.{work-start, end-early, end-late, retires-late, plain-end}
@@ -157,30 +157,38 @@ span-zero =
 top-zero : (r : ℕ) → TopPost 0 r 0
 top-zero r = record { below = omega arith; clear = λ i h. zero-bit i; same = λ i h l. refl }
 
-work-none : (m : Machine) (r t : ℕ) (recent : List ℕ) (base : ℕ) (values : List ℕ) (at : ℕ) (b : List ℕ) → r ≤ 64 → (179 ≤ t → test (ended (t - 179)) (m .places .p0) ≡ false)
-    → WorkPost m zeroSpan r t recent base values at b (record { machine = m; at = at }) b
-unfolding zeroSpan
-work-none m r t recent base values at b h waits = go (leb 179 t) refl
+-- no edge stands at the last r ticks of the span, and no reply is due
+work-none : (m : Machine) (s : Span) (r t : ℕ) (recent : List ℕ) (base : ℕ) (values : List ℕ) (at : ℕ) (b : List ℕ) → r ≤ 64 → TopPost (s .due) r 0 → NoneDue m t
+    → WorkPost m s r t recent base values at b (record { machine = m; at = at }) b
+work-none m s r t recent base values at b h top waits = go (leb 179 t) refl
   where
-    go : (c : Bool) → leb 179 t ≡ c → WorkPost m zeroSpan r t recent base values at b (record { machine = m; at = at }) b
+    go : (c : Bool) → leb 179 t ≡ c → WorkPost m s r t recent base values at b (record { machine = m; at = at }) b
     go true e =
         let l = leb-true 179 t e in
-        let w = work-start (Unit {0}) m zeroSpan r t recent base values at b 0 h (top-zero r) in
-        plain-end m zeroSpan r t recent base values at b (record { machine = m; at = at }) b
-        (end-late (Unit {0}) m zeroSpan r t recent base values at b b m at w (record { machine = m; at = at }) b l
-        (retires-late (Unit {0}) m zeroSpan r t recent base values at b w (record { machine = m; at = at }) b (retire-none m (t - 179) at b (waits l))))
+        let w = work-start (Unit {0}) m s r t recent base values at b 0 h top in
+        plain-end m s r t recent base values at b (record { machine = m; at = at }) b
+        (end-late (Unit {0}) m s r t recent base values at b b m at w (record { machine = m; at = at }) b l
+        (retires-late (Unit {0}) m s r t recent base values at b w (record { machine = m; at = at }) b (retire-none m (t - 179) at b (waits .open-still l))))
     go false e =
-        let w = work-start (Unit {0}) m zeroSpan r t recent base values at b 0 h (top-zero r) in
-        plain-end m zeroSpan r t recent base values at b (record { machine = m; at = at }) b
-        (end-early (Unit {0}) m zeroSpan r t recent base values at b b m at w (leb-false 179 t e))
+        let w = work-start (Unit {0}) m s r t recent base values at b 0 h top in
+        plain-end m s r t recent base values at b (record { machine = m; at = at }) b (end-early (Unit {0}) m s r t recent base values at b b m at w (leb-false 179 t e))
 
 -- ---- the block
 
 pub stays-law : (o : Run) (x : Planes) (r t : ℕ) (recent : List ℕ) (base : ℕ) (values b : List ℕ) → r ≤ 64 → Stays o x t → BlockPost o x r t recent base values b o b
+unfolding zeroSpan
 stays-law o x r t recent base values b h s =
     let f = still-zero (o .front) (s .words) in
     let p = bare-zero x (s .planes) in
     block-law o x r t recent base values b (o .front) zeroSpan (record { machine = o .machine; at = o .at }) b
     (subst (λ (y : Planes). AdvancePost (o .front) y r (o .front)) (sym p) (subst (λ (g : Front). AdvancePost g zeroPlanes r g) (sym f) (advance-zero r h)))
     (subst (λ (g : Front). SpanPost g zeroSpan) (sym f) span-zero)
-    (work-none (o .machine) r t recent base values (o .at) b h (s .open-still))
+    (work-none (o .machine) zeroSpan r t recent base values (o .at) b h (top-zero r) (s .waits))
+
+-- a block after which no edge can be worked and no reply is due leaves the machine as it is
+pub idle-law : (o : Run) (x : Planes) (r t : ℕ) (recent : List ℕ) (base : ℕ) (values b : List ℕ) (f : Front) (s : Span) (todo : ℕ) → r ≤ 64
+    → AdvancePost (o .front) x r f → SpanPost f s → TopPost (s .due) r todo → todo ≡ 0 → NoneDue (o .machine) t
+    → BlockPost o x r t recent base values b (record { front = f; machine = o .machine; at = o .at }) b
+idle-law o x r t recent base values b f s todo h ad sp top e waits =
+    block-law o x r t recent base values b f s (record { machine = o .machine; at = o .at }) b ad sp
+    (work-none (o .machine) s r t recent base values (o .at) b h (subst (TopPost (s .due) r) e top) waits)

@@ -212,6 +212,10 @@ module _ (o : Run) (recent : List ℕ) (base : ℕ) (flags values b₀ : List �
             }));
       }
 
+  -- a piece that would pass the limit
+  pub feed-over : 32768 < base + length flags → FeedPost o recent base flags values b₀ o b₀
+  feed-over h = record { same = refl; result = λ T g. absurd (omega (arith, g .limit)) }
+
   pub feed-end : (b : List ℕ) (y : Run) (i : ℕ) → length flags ≤ i → Feeding b y i → FeedPost o recent base flags values b₀ y b
   feed-end b y i h f =
       record {

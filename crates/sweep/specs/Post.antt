@@ -1,11 +1,13 @@
 -- What each operation returns and leaves in its buffer. The equations hold for every processor that belongs to a sweep (`Made`);
 -- for a processor value that no calls make, an operation is safe and ends.
-use Prim.Native.Nat.{ℕ}
-use mathlib.Core.List.{List, []}
+use Prim.Native.Nat.{ℕ, _+_, _≤_}
+use mathlib.Core.Bool.{Bool, true}
+use mathlib.Core.List.{List, [], _++_}
 use mathlib.Core.Path.{_≡_}
 use lib.ListN.{length}
 use Rattle.rules.specs.Settings.{standard}
-use Rattle.rules.specs.Samples.{Trace, _⧺_}
+use Rattle.rules.specs.Lists.{All}
+use Rattle.rules.specs.Samples.{Trace, _⧺_, sweepLimit}
 use Rattle.rules.specs.Buffers.{over}
 use Rattle.rules.specs.Machine.{final}
 use Rattle.rules.specs.Records.{records, totals}
@@ -16,7 +18,7 @@ use Rattle.sweep.specs.declared.Processor.{Processor}
 use Rattle.sweep.specs.declared.Opened.{Opened}
 use Rattle.sweep.specs.declared.Taken.{Taken}
 use Rattle.sweep.specs.declared.Closed.{Closed}
-use Rattle.sweep.specs.State.{Sweep, none, running, processorOf, idleProcessor, runningProcessor, isOpen, takenBy, Made}
+use Rattle.sweep.specs.State.{Sweep, none, running, processorOf, idleProcessor, runningProcessor, recentOf, isOpen, takenBy, Made}
 
 -- ---- open. "No processor comes back": a refused opening's is the idle one.
 
@@ -58,6 +60,20 @@ takeBufferAs (refused k) σ P b = b
 pub record TakePost (p : Processor) (P : Trace) (b : List ℕ) (r : Taken) (b′ : List ℕ) : Type 0 where
   pub result : (σ : Sweep) → Made σ p → r ≡ takeAs (takeVerdict σ P (length b)) σ P
   pub buffer : (σ : Sweep) → Made σ p → b′ ≡ takeBufferAs (takeVerdict σ P (length b)) σ P b
+
+-- ---- a take that finds nothing
+
+-- the piece P behind the trace T hands out nothing, and leaves all but the count of ticks and the kept values as it is
+pub record Rests (p : Processor) (mode azimuth : ℕ) (T P : Trace) : Type 0 where
+  pub none-due : fresh standard T P ≡ []
+  pub processor : record { mode = p .mode; azimuth = p .azimuth; taken = p .taken + length (P .flags); front = p .front; recent = recentOf (T .values ++ P .values); machine = p .machine }
+      ≡ runningProcessor mode azimuth (T ⧺ P)
+
+-- if r is true, every piece of these flags is such a piece
+pub record QuietPost (p : Processor) (flags : List ℕ) (r : Bool) : Type 0 where
+  pub limit : r ≡ true → p .taken + length flags ≤ sweepLimit
+  pub result : r ≡ true → (mode azimuth : ℕ) (T : Trace) (values : List ℕ) → Made (running mode azimuth T) p → length flags ≡ length values → All (λ v. v ≤ 255) values
+      → Rests p mode azimuth T (record { flags = flags; values = values })
 
 -- ---- close
 

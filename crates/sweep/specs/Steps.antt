@@ -64,16 +64,16 @@ unfoldable pub valueOf : List ℕ → ℕ → List ℕ → ℕ → ℕ
 valueOf recent base values t =
     cond (leb base t) (getD values (t - base) 0) (cond (leb base (t + 256)) (getD recent (t + 256 - base) 0) 0)
 
--- n places on, as far as there are values
+-- 256 values, n places on, as far as there are values
 pub record Older (recent : List ℕ) (n : ℕ) (r : List ℕ) : Type 0 where
   pub size : length r ≡ length recent
-  pub at : (i : ℕ) → i + n < 256 → getD r i 0 ≡ getD recent (i + n) 0
+  pub at : length recent ≡ 256 → (i : ℕ) → i + n < 256 → getD r i 0 ≡ getD recent (i + n) 0
 
--- the last values, at the end
+-- the last values, at the end of 256
 pub record Newer (older values r : List ℕ) : Type 0 where
   pub size : length r ≡ length older
   pub old : (i : ℕ) → i + length values < 256 → getD r i 0 ≡ getD older i 0
-  pub new : (i : ℕ) → i < 256 → 256 ≤ i + length values → getD r i 0 ≡ getD values (i + length values - 256) 0
+  pub new : length older ≡ 256 → (i : ℕ) → i < 256 → 256 ≤ i + length values → getD r i 0 ≡ getD values (i + length values - 256) 0
 
 -- the values of the last 256 ticks once the piece is taken
 pub record KeepPost (recent : List ℕ) (values : List ℕ) (recent′ : List ℕ) : Type 0 where
@@ -192,11 +192,22 @@ pub record BlockPost (o : Run) (x : Planes) (r t : ℕ) (recent : List ℕ) (bas
   pub inside : o .at ≤ length b → y .at ≤ length b
   pub result : (T P Q : Trace) (b₀ : List ℕ) → Fed T P b₀ o b → length (Q .flags) ≡ r → Low (Q .flags) x → Next T P Q t recent base values b₀ b → Fed T (P ⧺ Q) b₀ y b′
 
+-- no reply is due once t ticks are taken
+pub record NoneDue (m : Machine) (t : ℕ) : Type 0 where
+  pub open-still : 179 ≤ t → test (ended (t - 179)) (m .places .p0) ≡ false
+
 -- a block without flags leaves the run as it is: its words are 0, and no reply is due once t ticks are taken
 pub record Stays (o : Run) (x : Planes) (t : ℕ) : Type 0 where
   pub planes : bare x ≡ true
   pub words : still (o .front) ≡ true
-  pub open-still : 179 ≤ t → test (ended (t - 179)) (o .machine .places .p0) ≡ false
+  pub waits : NoneDue (o .machine) t
+
+-- the flags of 64 ticks past the end, and the values there: any beyond a list are 0
+abbrev pub noFlags : Planes
+noFlags = record { a = 0; p = 0; n = 0; m = 0 }
+
+abbrev pub noValues : List ℕ
+noValues = 0 ∷ []
 
 -- ---- a piece
 

@@ -2,7 +2,7 @@
 ghost use Prim.Native.Nat.{_<_, _≤_};
 ghost use mathlib.Core.Path.{_≡_};
 ghost use mathlib.Core.Bool.{true};
-ghost use Rattle.sweep.specs.Steps.{VisitPost, WorkPost, bare, Stays, BlockPost};
+ghost use Rattle.sweep.specs.Steps.{VisitPost, WorkPost, bare, NoneDue, Stays, BlockPost, noFlags, noValues};
 use super::front::Front;
 use super::front::advance;
 use super::front::is_still;
@@ -153,6 +153,16 @@ fn is_bare(x: Planes) -> bool
     (x.a == 0) & ((x.p == 0) & ((x.n == 0) & (x.m == 0)))
 }
 
+// Whether no reply is due once t ticks are taken.
+pub fn none_due(m: Machine, t: u32) -> bool
+    ensures { λ r. ⌜ (r ≡ true → NoneDue m t) ⌝ }
+{
+    if t < 179 {
+        return true;
+    }
+    !due_any(m, t - 179)
+}
+
 // Whether a block of these planes leaves the run as it is, once t ticks are taken.
 pub fn stays(o: Run, x: Planes, t: u32) -> bool
     ensures { λ r. ⌜ (r ≡ true → Stays o x t) ⌝ }
@@ -165,10 +175,7 @@ pub fn stays(o: Run, x: Planes, t: u32) -> bool
     if !is_still(front) {
         return false;
     }
-    if t < 179 {
-        return true;
-    }
-    !due_any(machine, t - 179)
+    none_due(machine, t)
 }
 
 // The run after r ticks more, whose flags are the r low bits of x; they make t ticks.
@@ -192,7 +199,42 @@ pub fn block(
     let machine = o.machine;
     let front = advance(before, x, r);
     let s = span_of(front);
+    let todo = top(s.due, r);
+    if todo == 0 {
+        if none_due(machine, t) {
+            return Run {
+                front,
+                machine,
+                at: o.at,
+            };
+        }
+    }
     let v = work(machine, s, r, t, recent, base, values, out, o.at);
+    let after = v.machine;
+    Run {
+        front,
+        machine: after,
+        at: v.at,
+    }
+}
+
+// The run after 64 ticks of zeros past the end of a sweep; they make t ticks.
+pub fn silent_block(o: Run, t: u32, recent: &[u8; 256], base: u32, out: &mut [u8]) -> Run
+    requires { ⌜ t < 65000 ⌝ }
+    ensures { λ y. ⌜ BlockPost o noFlags 64 t (now (recent .entry)) base noValues (now (out .entry)) y (now (out .exit)) ⌝ }
+{
+    let zero = [0u8; 1];
+    let x = Planes {
+        a: 0,
+        p: 0,
+        n: 0,
+        m: 0,
+    };
+    let before = o.front;
+    let machine = o.machine;
+    let front = advance(before, x, 64);
+    let s = span_of(front);
+    let v = work(machine, s, 64, t, recent, base, &zero, out, o.at);
     let after = v.machine;
     Run {
         front,

@@ -10,20 +10,23 @@ ghost use Prim.Native.Nat.{_≤_};
 ghost use mathlib.Core.Path.{_≡_};
 ghost use Rattle.rules.specs.Calls.{takeRoom};
 ghost use Rattle.sweep.specs.State.{idleProcessor};
-ghost use Rattle.sweep.specs.Post.{openOf, noTotals, TakePost, ClosePost};
+ghost use Rattle.sweep.specs.Post.{openOf, noTotals, TakePost, QuietPost, ClosePost};
 ghost use Rattle.sweep.specs.declared.Answer.the-variants.{Refused};
 ghost use Rattle.sweep.specs.Steps.{totalsFrom};
-use blocks::Run;
+pub use blocks::Run;
+use blocks::none_due;
 use edges::flags::has_bad;
+use edges::flags::is_bare;
 pub use front::Front;
+use front::is_still;
 use front::no_front;
 use machine::empty_machine;
 use pieces::drain;
-use pieces::feed;
+pub use pieces::feed;
 use rules::Counts;
 use rules::Machine;
 use rules::Totals;
-use values::keep;
+pub use values::keep;
 
 // Mode 0: no sweep is open. `recent` holds the values of the last 256 ticks, the newest last.
 pub struct Processor {
@@ -150,7 +153,7 @@ pub fn take(p: Processor, flags: &[u8], values: &[u8], out: &mut [u8]) -> Taken
     if has_bad(flags) {
         return no_take(p, 8);
     }
-    let recent = p.recent;
+    let mut recent = p.recent;
     let front = p.front;
     let machine = p.machine;
     let o = Run {
@@ -159,7 +162,7 @@ pub fn take(p: Processor, flags: &[u8], values: &[u8], out: &mut [u8]) -> Taken
         at: 0,
     };
     let y = feed(o, &recent, base, flags, values, out);
-    let kept = keep(recent, values);
+    keep(&mut recent, values);
     let front2 = y.front;
     let machine2 = y.machine;
     Taken {
@@ -169,10 +172,34 @@ pub fn take(p: Processor, flags: &[u8], values: &[u8], out: &mut [u8]) -> Taken
             azimuth: p.azimuth,
             taken: base + n as u32,
             front: front2,
-            recent: kept,
+            recent,
             machine: machine2,
         },
     }
+}
+
+// Whether taking these flags changes nothing but the count of ticks and the kept values: no flag is set, no word has a bit, no reply becomes due.
+pub fn is_quiet(p: Processor, flags: &[u8]) -> bool
+    ensures { λ r. ⌜ QuietPost p (now (flags .entry)) r ⌝ }
+{
+    let base = p.taken;
+    let front = p.front;
+    let machine = p.machine;
+    let n = flags.len();
+    if 4096 < n {
+        return false;
+    }
+    let t = base as usize + n;
+    if 32768 < t {
+        return false;
+    }
+    if !is_still(front) {
+        return false;
+    }
+    if !is_bare(flags) {
+        return false;
+    }
+    none_due(machine, t as u32)
 }
 
 // The totals, from the machine's counts.

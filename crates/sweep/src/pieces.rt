@@ -6,6 +6,7 @@ ghost use Rattle.edges.specs.Packing.{PackedPart};
 ghost use Rattle.sweep.specs.Steps.{blockLength, FeedPost, DrainPost};
 use super::blocks::Run;
 use super::blocks::block;
+use super::blocks::silent_block;
 use super::blocks::stays;
 use edges::flags::bare_block;
 use edges::packing::Planes;
@@ -44,7 +45,7 @@ fn block_length(n: usize) -> usize
     64
 }
 
-// The run after a piece, which begins once `base` ticks are taken.
+// The run after a piece, which begins once `base` ticks are taken. A piece that would pass the limit of a sweep is not fed.
 pub fn feed(
     o: Run,
     recent: &[u8; 256],
@@ -53,10 +54,12 @@ pub fn feed(
     values: &[u8],
     out: &mut [u8],
 ) -> Run
-    requires { ⌜ base + length (now flags) ≤ 32768 ⌝ }
     ensures { λ y. ⌜ FeedPost o (now (recent .entry)) base (now (flags .entry)) (now (values .entry)) (now (out .entry)) y (now (out .exit)) ⌝ }
 {
     let n = flags.len();
+    if 32768 < base as usize + n {
+        return o;
+    }
     let mut run = o;
     let mut i: usize = 0;
     while i < n {
@@ -80,18 +83,11 @@ pub fn drain(o: Run, recent: &[u8; 256], base: u32, out: &mut [u8]) -> Run
     requires { ⌜ base < 64000 ⌝ }
     ensures { λ y. ⌜ DrainPost o (now (recent .entry)) base (now (out .entry)) y (now (out .exit)) ⌝ }
 {
-    let zero = [0u8; 1];
     let mut run = o;
     let mut i: u32 = 0;
     while i < 7 {
-        let x = Planes {
-            a: 0,
-            p: 0,
-            n: 0,
-            m: 0,
-        };
         let t = base + 64 * (i + 1);
-        let y = block(run, x, 64, t, recent, base, &zero, out);
+        let y = silent_block(run, t, recent, base, out);
         run = y;
         i += 1;
     }

@@ -23,20 +23,18 @@ pub fn value_at(recent: &[u8; 256], base: u32, values: &[u8], t: u32) -> u8
 }
 
 // The kept values of the ticks after the first n, moved to the front.
-fn older(recent: [u8; 256], n: usize) -> [u8; 256]
-    ensures { λ r. ⌜ Older recent n r ⌝ }
+fn older(recent: &mut [u8; 256], n: usize)
+    ensures { λ _. ⌜ Older (now (recent .entry)) n (now (recent .exit)) ⌝ }
 {
-    let mut kept = recent;
-    let mut i: usize = 0;
     if 256 < n {
-        return kept;
+        return;
     }
     let end = 256 - n;
+    let mut i: usize = 0;
     while i < end {
-        kept[i] = recent[i + n];
+        recent[i] = recent[i + n];
         i += 1;
     }
-    kept
 }
 
 // The first of the 256 places that a piece of n ticks fills.
@@ -50,24 +48,22 @@ fn first_new(n: usize) -> usize
 }
 
 // The last values of the piece, at the end of the kept ones.
-fn newer(older: [u8; 256], values: &[u8]) -> [u8; 256]
-    ensures { λ r. ⌜ Newer older (now (values .entry)) r ⌝ }
+fn newer(recent: &mut [u8; 256], values: &[u8])
+    ensures { λ _. ⌜ Newer (now (recent .entry)) (now (values .entry)) (now (recent .exit)) ⌝ }
 {
     let n = values.len();
-    let mut kept = older;
     let mut i = first_new(n);
     while i < 256 {
-        kept[i] = values[i + n - 256];
+        recent[i] = values[i + n - 256];
         i += 1;
     }
-    kept
 }
 
-// The values to keep once the piece is taken.
-pub fn keep(recent: [u8; 256], values: &[u8]) -> [u8; 256]
-    ensures { λ r. ⌜ KeepPost recent (now (values .entry)) r ⌝ }
+// Makes the kept values those to keep once the piece is taken.
+pub fn keep(recent: &mut [u8; 256], values: &[u8])
+    ensures { λ _. ⌜ KeepPost (now (recent .entry)) (now (values .entry)) (now (recent .exit)) ⌝ }
 {
     let n = values.len();
-    let kept = older(recent, n);
-    newer(kept, values)
+    older(recent, n);
+    newer(recent, values);
 }

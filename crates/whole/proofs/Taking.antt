@@ -27,12 +27,15 @@ use Rattle.sweep.specs.declared.Answer.{Answer}
 use Rattle.sweep.specs.declared.Answer.the-variants.{Accepted, Refused}
 use Rattle.sweep.specs.declared.Processor.{Processor}
 use Rattle.sweep.specs.declared.Closed.{Closed}
+use Rattle.sweep.specs.declared.blocks.Run.{Run}
 use Rattle.sweep.specs.State.{Sweep, none, running, runningProcessor, processorOf, Within, Made}
-use Rattle.sweep.specs.Post.{takeVerdict, closeVerdict, closeAs, closeBufferAs, ClosePost}
+use Rattle.sweep.specs.Post.{takeVerdict, closeVerdict, closeAs, closeBufferAs, QuietPost, ClosePost}
+use Rattle.sweep.specs.Steps.{KeepPost}
 use Rattle.sweep.proofs.Answers.{standard-allowed}
+use Rattle.sweep.proofs.Operations.{taken-of}
 use Rattle.whole.specs.declared.Reached.{Reached}
-use Rattle.whole.specs.Post.{wholeRoom, Reaches, TakeAtPost, Taken, Takes, TakeAllPost, CloseAtPost}
-use Rattle.whole.proofs.Pieces.{isRefused, countIn, over-rest, mid-is, post-is}
+use Rattle.whole.specs.Post.{wholeRoom, FeedAtPost, Taken, Takes, TakeAllPost, CloseAtPost}
+use Rattle.whole.proofs.Pieces.{isRefused, countIn, over-rest, mid-is, post-is, Reaches, TakesAt, piece-fed, piece-quiet}
 
 -- ---- lists
 
@@ -40,6 +43,11 @@ all-take : (n : ℕ) (l : List ℕ) → All (λ v. v ≤ 255) l → All (λ v. v
 all-take zero l h = tt
 all-take (suc n) [] h = tt
 all-take (suc n) (x ∷ l) h = (h .0, all-take n l (h .1))
+
+all-drop : (n : ℕ) (l : List ℕ) → All (λ v. v ≤ 255) l → All (λ v. v ≤ 255) (drop n l)
+all-drop zero l h = h
+all-drop (suc n) [] h = tt
+all-drop (suc n) (x ∷ l) h = all-drop n l (h .1)
 
 pub or-left : (a b : Bool) → (a || b) ≡ false → a ≡ false
 or-left false b e = refl
@@ -129,7 +137,7 @@ module _ (p : Processor) (T : Trace) (piece : ℕ) (b₀ : List ℕ) (alike : le
       }
 
   module _ (q : Processor) (at i end : ℕ) (b : List ℕ) (h : Takings p T piece b₀ q at i b) (more : i < length (T .flags)) (step : end ≡ i + min piece (length (T .flags) - i))
-      (r : Reached) (b′ : List ℕ) (post : TakeAtPost q (between i end T) at b r b′) where
+      (r : Reached) (b′ : List ℕ) (post : TakesAt q (between i end T) at b r b′) where
     here : end ≤ length (T .flags)
     here = omega (arith, step)
 
@@ -193,6 +201,42 @@ module _ (p : Processor) (T : Trace) (piece : ℕ) (b₀ : List ℕ) (alike : le
 
     pub takings-next : length b′ ≡ length b → Takings p T piece b₀ (r .processor) (r .at) end b′
     takings-next l = record { size = l ∙ h .size; inside = omega (arith, post .inside, h .size); reach = here; result = now-taken }
+
+  -- one that is fed, and one that finds nothing
+  module _ (q : Processor) (at i end t : ℕ) (b : List ℕ) (h : Takings p T piece b₀ q at i b) (more : i < length (T .flags)) (step : end ≡ i + min piece (length (T .flags) - i))
+      (ticks : t ≡ q .taken + (end - i)) (bytes : All (λ v. v ≤ 255) (T .values)) (kept : List ℕ) (keeps : KeepPost (q .recent) (between i end T .values) kept) where
+    size-F : length (between i end T .flags) ≡ end - i
+    size-F = length-take-le (end - i) (drop i (T .flags)) (omega (arith, length-drop i (T .flags), step))
+
+    size-V : length (between i end T .values) ≡ end - i
+    size-V = length-take-le (end - i) (drop i (T .values)) (omega (arith, length-drop i (T .values), step, alike))
+
+    bytes-P : All (λ v. v ≤ 255) (between i end T .values)
+    bytes-P = all-take (end - i) (drop i (T .values)) (all-drop i (T .values) bytes)
+
+    pub takings-fed : (y : Run) (b′ : List ℕ) → FeedAtPost (record { front = q .front; machine = q .machine; at = at }) (q .recent) (q .taken) (between i end T) b y b′
+        → length b′ ≡ length b
+        → Takings p T piece b₀ (record { mode = q .mode; azimuth = q .azimuth; taken = t; front = y .front; recent = kept; machine = y .machine }) (y .at) end b′
+    takings-fed y b′ post l =
+        takings-next q at i end b h more step
+        (record { processor = record { mode = q .mode; azimuth = q .azimuth; taken = t; front = y .front; recent = kept; machine = y .machine }; at = y .at }) b′
+        (piece-fed q (between i end T) at b bytes-P y b′ post t (omega (arith, ticks, size-F)) kept keeps) l
+
+    pub takings-quiet : (r : Bool) → QuietPost q (between i end T .flags) r → r ≡ true
+        → Takings p T piece b₀ (record { mode = q .mode; azimuth = q .azimuth; taken = t; front = q .front; recent = kept; machine = q .machine }) at end b
+    takings-quiet r quiet is =
+        takings-next q at i end b h more step
+        (record { processor = record { mode = q .mode; azimuth = q .azimuth; taken = t; front = q .front; recent = kept; machine = q .machine }; at = at }) b
+        (piece-quiet q (between i end T) at b (omega (arith, h .inside, h .size)) (size-F ∙ sym size-V) bytes-P r quiet is t (omega (arith, ticks, size-F)) kept keeps) refl
+
+  -- a processor whose count of ticks is beyond a sweep's comes from none
+  pub takings-over : (q : Processor) (at i end : ℕ) (b : List ℕ) → i < length (T .flags) → end ≡ i + min piece (length (T .flags) - i) → 32768 < q .taken + (end - i)
+      → Takings p T piece b₀ q at i b → TakeAllPost p T piece b₀ (record { processor = q; at = at }) b
+  takings-over q at i end b more step over h =
+      record {
+        inside = h .inside;
+        result = λ mode azimuth e t. absurd (omega (arith, over, step, t .short, taken-of mode azimuth (upTo i T) q (h .result mode azimuth e t .processor), length-take-le i (T .flags) (h .reach)));
+      }
 
   pub takings-end : (q : Processor) (at i : ℕ) (b : List ℕ) → length (T .flags) ≤ i → Takings p T piece b₀ q at i b → TakeAllPost p T piece b₀ (record { processor = q; at = at }) b
   takings-end q at i b l h =

@@ -4,7 +4,7 @@ use mathlib.Core.Bool.{false, not, _&&_, _||_}
 use mathlib.Core.List.{List, [], _∷_}
 use mathlib.Core.Path.{_≡_}
 use lib.Dec.{leb, ltb, eqb}
-use lib.ListN.{length}
+use lib.ListN.{length, drop}
 use Rattle.rules.specs.declared.Totals.{Totals}
 use Rattle.rules.specs.Settings.{standard}
 use Rattle.rules.specs.Lists.{any, All}
@@ -15,8 +15,9 @@ use Rattle.rules.specs.Records.{records, replies, totals}
 use Rattle.rules.specs.Calls.{Answer as Verdict, accepted, refused, firstOf, takeRoom, closeRoom, handed, fresh, rest}
 use Rattle.frames.specs.Writing.{totalsBytes}
 use Rattle.sweep.specs.declared.Processor.{Processor}
-use Rattle.sweep.specs.State.{Sweep, running, runningProcessor, Made}
-use Rattle.sweep.specs.Post.{takeVerdict}
+use Rattle.sweep.specs.declared.blocks.Run.{Run}
+use Rattle.sweep.specs.State.{running, runningProcessor, Made}
+use Rattle.sweep.specs.Steps.{Begins}
 use Rattle.whole.specs.declared.Reached.{Reached}
 
 -- room for what the pieces hand out, each into the rest of the buffer, and for what is left at the close
@@ -61,16 +62,16 @@ pub record WholePost (mode azimuth : ℕ) (T : Trace) (piece : ℕ) (b c : List 
 
 -- ---- one piece
 
--- the piece P behind the trace T, its records from place at of the buffer on
-pub record Reaches (mode azimuth : ℕ) (T P : Trace) (at : ℕ) (b : List ℕ) (r : Reached) (b′ : List ℕ) : Type 0 where
-  pub processor : r .processor ≡ runningProcessor mode azimuth (T ⧺ P)
-  pub place : r .at ≡ at + 18 * length (fresh standard T P)
+-- the piece P behind the trace T: the words and the machine of a processor, whatever its mode and azimuth, and the records from place at of the buffer on
+pub record FedAt (T P : Trace) (at : ℕ) (b : List ℕ) (y : Run) (b′ : List ℕ) : Type 0 where
+  pub front : y .front ≡ runningProcessor 0 0 (T ⧺ P) .front
+  pub machine : y .machine ≡ runningProcessor 0 0 (T ⧺ P) .machine
+  pub place : y .at ≡ at + 18 * length (fresh standard T P)
   pub buffer : b′ ≡ over-at (records (fresh standard T P)) at b
 
-pub record TakeAtPost (p : Processor) (P : Trace) (at : ℕ) (b : List ℕ) (r : Reached) (b′ : List ℕ) : Type 0 where
-  pub inside : r .at ≤ length b
-  pub result : (mode azimuth : ℕ) (T : Trace) → Made (running mode azimuth T) p → takeVerdict (running mode azimuth T) P (length b - at) ≡ accepted
-      → Reaches mode azimuth T P at b r b′
+pub record FeedAtPost (o : Run) (recent : List ℕ) (base : ℕ) (P : Trace) (b : List ℕ) (y : Run) (b′ : List ℕ) : Type 0 where
+  pub inside : y .at ≤ length b
+  pub result : (T : Trace) → Begins T (record { front = o .front; machine = o .machine; at = 0 }) recent base (P .flags) (P .values) (drop (o .at) b) → FedAt T P (o .at) b y b′
 
 -- ---- all pieces
 

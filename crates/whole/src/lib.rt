@@ -1,8 +1,8 @@
 // A whole sweep in one call, on numbers and byte buffers, for a program in C: opened, taken in pieces, closed.
-ghost use Prim.Native.Nat.{_+_, _*_, _≤_, _<_, min};
+ghost use Prim.Native.Nat.{_+_, _-_, _*_, _≤_, _<_, min};
 ghost use mathlib.Core.Path.{_≡_};
 ghost use lib.ListN.{length};
-ghost use Rattle.whole.specs.Post.{wholeRoom, wholeAnswer, numberOf, TakeAtPost, TakeAllPost, CloseAtPost, WholePost};
+ghost use Rattle.whole.specs.Post.{wholeRoom, wholeAnswer, numberOf, FeedAtPost, TakeAllPost, CloseAtPost, WholePost};
 ghost use Rattle.rules.specs.Buffers.{over};
 ghost use Rattle.frames.specs.Writing.{totalsBytes};
 use edges::flags::has_bad;
@@ -10,9 +10,12 @@ use frames::totals_bytes;
 use rules::Totals;
 use sweep::Answer;
 use sweep::Processor;
+use sweep::Run;
 use sweep::close;
+use sweep::feed;
+use sweep::is_quiet;
+use sweep::keep;
 use sweep::open;
-use sweep::take;
 
 // The processor after some pieces, and the place in the buffer behind the last record.
 pub struct Reached {
@@ -83,30 +86,48 @@ fn refusal(
     0
 }
 
-// A piece, whose records land behind those of the pieces before.
-fn take_at(p: Processor, flags: &[u8], values: &[u8], out: &mut [u8], at: usize) -> Reached
-    requires { ⌜ at ≤ length (now out) ⌝ }
-    ensures { λ r. ⌜ TakeAtPost p (record { flags = now (flags .entry); values = now (values .entry) }) at (now (out .entry)) r (now (out .exit)) ⌝ }
+// The ticks that a sweep of `taken` ticks may still take.
+fn ticks_left(taken: u32) -> usize
+    ensures { λ r. ⌜ r ≡ 32768 - taken ⌝ }
 {
+    if taken < 32768 {
+        return 32768 - taken as usize;
+    }
+    0
+}
+
+// The run after a piece, whose records land behind those of the pieces before.
+fn feed_at(
+    o: Run,
+    recent: &[u8; 256],
+    base: u32,
+    flags: &[u8],
+    values: &[u8],
+    out: &mut [u8],
+) -> Run
+    requires { ⌜ o .at ≤ length (now out) ⌝ }
+    ensures { λ y. ⌜ FeedAtPost o (now (recent .entry)) base (record { flags = now (flags .entry); values = now (values .entry) }) (now (out .entry)) y (now (out .exit)) ⌝ }
+{
+    let at = o.at;
+    let front = o.front;
+    let machine = o.machine;
+    let first = Run {
+        front,
+        machine,
+        at: 0,
+    };
     let most = (out.len() - at) / 18;
-    let t = take(p, flags, values, &mut out[at..]);
-    let answer = t.answer;
-    let next = t.processor;
-    match answer {
-        Answer::Refused(_) => Reached {
-            processor: next,
-            at,
-        },
-        Answer::Accepted(count) => {
-            Reached {
-                processor: next,
-                at: at + 18 * least(count, most),
-            }
-        }
+    let y = feed(first, recent, base, flags, values, &mut out[at..]);
+    let front2 = y.front;
+    let machine2 = y.machine;
+    Run {
+        front: front2,
+        machine: machine2,
+        at: at + 18 * least(y.at / 18, most),
     }
 }
 
-// All pieces, of `piece` ticks each but for the last.
+// All pieces, of `piece` ticks each but for the last. One that finds nothing is taken in place.
 fn take_all(p: Processor, flags: &[u8], values: &[u8], piece: usize, out: &mut [u8]) -> Reached
     requires { ⌜ (length (now flags) ≡ length (now values)) × (1 ≤ piece) ⌝ }
     ensures { λ r. ⌜ TakeAllPost p (record { flags = now (flags .entry); values = now (values .entry) }) piece (now (out .entry)) r (now (out .exit)) ⌝ }
@@ -117,9 +138,27 @@ fn take_all(p: Processor, flags: &[u8], values: &[u8], piece: usize, out: &mut [
     let mut i: usize = 0;
     while i < n {
         let end = i + least(piece, n - i);
-        let t = take_at(q, &flags[i..end], &values[i..end], out, at);
-        q = t.processor;
-        at = t.at;
+        let base = q.taken;
+        if ticks_left(base) < end - i {
+            return Reached { processor: q, at };
+        }
+        if is_quiet(q, &flags[i..end]) {
+            keep(&mut q.recent, &values[i..end]);
+            q.taken = base + (end - i) as u32;
+            i = end;
+            continue;
+        }
+        let front = q.front;
+        let machine = q.machine;
+        let o = Run { front, machine, at };
+        let y = feed_at(o, &q.recent, base, &flags[i..end], &values[i..end], out);
+        let front2 = y.front;
+        let machine2 = y.machine;
+        q.front = front2;
+        q.machine = machine2;
+        keep(&mut q.recent, &values[i..end]);
+        q.taken = base + (end - i) as u32;
+        at = y.at;
         i = end;
     }
     Reached { processor: q, at }

@@ -13,6 +13,7 @@ use borrow.Author.Tests.{ltb-true, ltb-false, lt-ltb, le-ltb}
 use Rattle.rules.specs.Lists.{any}
 use Rattle.rules.specs.Samples.{bad, odd}
 use Rattle.edges.specs.Words.{bit}
+use Rattle.edges.specs.Flags.{BadFrom}
 use Rattle.edges.proofs.Cases.{or-false}
 use Rattle.edges.proofs.BitLaws.{bit-and, bit-or, bit-shr}
 
@@ -45,17 +46,20 @@ regroup false false true false r = refl
 regroup false false false true r = refl
 regroup false false false false r = refl
 
--- the bytes before i are seen, the others are still to come
-pub record Seen (f : List ℕ) (bits pairs i : ℕ) : Type 0 where
+-- of the bytes from o on, those before i are seen, the others are still to come
+pub record Seen (f : List ℕ) (o bits pairs i : ℕ) : Type 0 where
   pub within : i ≤ length f
-  pub so-far : seen bits pairs || any bad (drop i f) ≡ any bad f
+  pub so-far : seen bits pairs || any bad (drop i f) ≡ any bad (drop o f)
 
-pub seen-first : (f : List ℕ) → Seen f 0 0 0
-seen-first f = record { within = omega arith; so-far = refl }
+pub seen-first : (f : List ℕ) (o : ℕ) → o ≤ length f → Seen f o 0 0 o
+seen-first f o h = record { within = h; so-far = refl }
 
-pub seen-next : (f : List ℕ) (bits pairs i : ℕ) → i < length f → Seen f bits pairs i
-    → Seen f (bitOr bits (getD f i 0)) (bitOr pairs (bitAnd (getD f i 0) (getD f i 0 / 2 ^ 1))) (i + 1)
-seen-next f bits pairs i h s =
+pub rest : (f : List ℕ) (i : ℕ) → i < length f → drop i f ≡ getD f i 0 ∷ drop (i + 1) f
+rest f i h = rw (add-one, drop-cons f i 0)
+
+pub seen-next : (f : List ℕ) (o bits pairs i : ℕ) → i < length f → Seen f o bits pairs i
+    → Seen f o (bitOr bits (getD f i 0)) (bitOr pairs (bitAnd (getD f i 0) (getD f i 0 / 2 ^ 1))) (i + 1)
+seen-next f o bits pairs i h s =
     let x = getD f i 0 in
     record {
       within = omega arith;
@@ -65,10 +69,8 @@ seen-next f bits pairs i h s =
           ∙ ap (λ (l : List ℕ). seen bits pairs || any bad l) (sym (rest f i h))
           ∙ s .so-far;
     }
-  where
-    rest : (f : List ℕ) (i : ℕ) → i < length f → drop i f ≡ getD f i 0 ∷ drop (i + 1) f
-    rest f i h = rw (add-one, drop-cons f i 0)
 
-pub all-seen : (f : List ℕ) (bits pairs i : ℕ) → length f ≤ i → Seen f bits pairs i → seen bits pairs ≡ any bad f
-all-seen f bits pairs i h s =
-    sym (or-false (seen bits pairs)) ∙ ap (λ (l : List ℕ). seen bits pairs || any bad l) (sym (drop-of-length-le f h)) ∙ s .so-far
+pub all-seen : (f : List ℕ) (o bits pairs i : ℕ) → length f ≤ i → Seen f o bits pairs i → BadFrom f o (seen bits pairs)
+all-seen f o bits pairs i h s = record {
+  is = sym (or-false (seen bits pairs)) ∙ ap (λ (l : List ℕ). seen bits pairs || any bad l) (sym (drop-of-length-le f h)) ∙ s .so-far;
+}

@@ -1,9 +1,12 @@
--- `slide` joins the last 64 - r bits of the word before and r new ones.
+-- `slide` joins the last 64 - r bits of the word before and r new ones; 64 new ones are the word.
 use native.Mathlib.Omega.{arith}
 use borrow.Author.Needs.{needs}
-use Rattle.edges.proofs.PlaneLaws.{holds-slide}
+use Rattle.edges.proofs.PlaneLaws.{holds-slide, holds-next}
 use Rattle.edges.proofs.words.slide.Statement.{statement}
 use Rattle.edges.proofs.words.slide.Tie as tie
+
+returns : tie.Need-returns
+returns c = record { holds = λ F b p q. holds-next F b (c .before .args .now) (c .before .args .r) (omega arith) (omega arith) q }
 
 sub-result : tie.Need-sub-result
 sub-result c = search needs
@@ -23,10 +26,10 @@ cast-result-2 c = search needs
 shr-result : tie.Need-shr-result
 shr-result c = search needs
 
-returns : tie.Need-returns
-returns c = record { holds = λ F b q p. holds-slide (c .args .now) (c .args .r) (omega arith) (omega arith) p q }
+returns-2 : tie.Need-returns-2
+returns-2 c = record { holds = λ F b q p. holds-slide (c .before .args .now) (c .before .args .r) (omega arith) (omega arith) p q }
 
 pub slide-spec : {M : Type 1} → statement M
 slide-spec =
     tie.close
-    (tie.spec sub-result cast-result shl-result sub-result-2 cast-result-2 shr-result returns)
+    (tie.spec returns sub-result cast-result shl-result sub-result-2 cast-result-2 shr-result returns-2)

@@ -1,53 +1,43 @@
+-- `older` moves the kept values n places to the front, in place. The invariant: those before i are moved, the others are as they were.
 use Prim.Native.Nat.{_-_}
 use native.Mathlib.Omega.{arith}
 use mathlib.Core.Path.{refl}
-use Rattle.sweep.proofs.Keeping.{Moving, moving-next}
+use Rattle.sweep.proofs.Keeping.{Moving, moving-start, moving-next, moving-end, none-older}
 use Rattle.sweep.proofs.values.older.Statement.{statement}
 use Rattle.sweep.proofs.values.older.Tie as tie
-use Rattle.sweep.proofs.values.older.Reads as reads
-use Rattle.sweep.proofs.values.older.Lts as lts
 
 abbrev Inv-loop : tie.InvT-loop
-Inv-loop n recent kept₀ i₀ end kept i = Moving recent n end kept i
+Inv-loop recent₀ n end i₀ recent i = Moving recent₀ n end recent i
 
 abbrev μ-loop : tie.MeasureT-loop
-μ-loop n recent kept₀ i₀ end kept i = end - i
+μ-loop recent₀ n end i₀ recent i = end - i
 
--- src/values.rt:31:9
 returns : tie.Need-returns Inv-loop μ-loop
-returns c = record { size = refl; at = λ i h. absurd (omega arith) }
+returns c = none-older (c .before .args .recent .now) (c .before .args .n) (c .if1 .taken)
 
--- src/values.rt:34:5
 loop-holds : tie.Need-loop-holds Inv-loop μ-loop
-loop-holds c = record { size = refl; most = omega arith; at = λ k l. absurd (omega arith) }
+loop-holds c = moving-start (c .before .args .recent .now) (c .before .args .n) _
 
--- src/values.rt:35:26
-add-kept : tie.Need-add-kept Inv-loop μ-loop
-add-kept c = omega arith
+add-recent : tie.Need-add-recent Inv-loop μ-loop
+add-recent c = omega arith
 
--- src/values.rt:35:19
-array-read-kept : tie.Need-array-read-kept Inv-loop μ-loop
-array-read-kept c = omega arith
+element-copy-out-recent : tie.Need-element-copy-out-recent Inv-loop μ-loop
+element-copy-out-recent c = omega arith
 
--- src/values.rt:35:9
-array-write-kept : tie.Need-array-write-kept Inv-loop μ-loop
-array-write-kept c = omega arith
+element-write-recent : tie.Need-element-write-recent Inv-loop μ-loop
+element-write-recent c = omega arith
 
--- src/values.rt:36:9
 add-i : tie.Need-add-i Inv-loop μ-loop
 add-i c = omega arith
 
--- src/values.rt:34:5
 loop-less : tie.Need-loop-less Inv-loop μ-loop
 loop-less c = omega arith
 
--- src/values.rt:34:5
 loop-again : tie.Need-loop-again Inv-loop μ-loop
-loop-again c = moving-next (c .before .before .before .args .t1) (c .before .before .before .args .n) _ (c .before .loop .kept) (c .before .loop .i) (c .loop-test .taken) (omega arith) (c .before .loop .inv)
+loop-again c = moving-next (c .before .before .before .before .args .recent .now) (c .before .before .before .before .args .n) _ (c .before .before .loop .recent) (c .before .before .loop .i) (c .before .loop-test .taken) (omega arith) (c .before .before .loop .inv)
 
--- src/values.rt:25:1
 returns-2 : tie.Need-returns-2 Inv-loop μ-loop
-returns-2 c = record { size = c .before .loop .inv .size; at = λ i h. c .before .loop .inv .at i (omega arith) }
+returns-2 c = moving-end (c .before .before .before .args .recent .now) (c .before .before .before .args .n) _ (c .before .loop .recent) (c .before .loop .i) (omega arith) refl (c .before .loop .inv)
 
 pub older-spec : {M : Type 1} → statement M
 older-spec =
@@ -57,9 +47,9 @@ older-spec =
     μ-loop
     returns
     loop-holds
-    add-kept
-    array-read-kept
-    array-write-kept
+    add-recent
+    element-copy-out-recent
+    element-write-recent
     add-i
     loop-less
     loop-again

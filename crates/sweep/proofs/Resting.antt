@@ -1,0 +1,141 @@
+-- A piece without flags, behind ticks without flags, edges and M, hands out nothing while no reply is due, and leaves words and machine as they are:
+-- each of its ticks is a block that stays.
+use Prim.Native.Nat.{ℕ, zero, suc, _+_, _-_, _*_, _/_, _≤_, _<_}
+use native.Mathlib.Omega.{arith}
+use native.Mathlib.Numerals.{add-one}
+use mathlib.Core.Path.{_≡_, refl, sym, ap, _∙_, subst}
+use mathlib.Core.Bool.{Bool, true, false}
+use mathlib.Core.List.{List, [], _∷_, _++_}
+use lib.Dec.{ltb}
+use lib.ListN.{length, getD, replicate, length-append, length-replicate}
+use borrow.Author.Tests.{ltb-false, le-ltb}
+use Rattle.rules.specs.declared.Reply.{Reply}
+use Rattle.rules.specs.declared.Slot.{Slot}
+use Rattle.rules.specs.declared.Slot.the-variants.{Idle, Open}
+use Rattle.rules.specs.Settings.{standard}
+use Rattle.rules.specs.Lists.{All}
+use Rattle.rules.specs.Samples.{Trace, _⧺_, A, P, N, M, odd, sweepLimit}
+use Rattle.rules.specs.Replies.{f1, ended}
+use Rattle.rules.specs.Calls.{takeRoom, fresh}
+use Rattle.rules.proofs.Truth.{impossible}
+use Rattle.machine.specs.Places.{testSlot}
+use Rattle.edges.specs.declared.packing.Planes.{Planes}
+use Rattle.edges.specs.Words.{bit, HoldsPart}
+use Rattle.edges.specs.Packing.{PackedPart}
+use Rattle.edges.specs.Flags.{Bare}
+use Rattle.edges.proofs.BitLaws.{zero-bit}
+use Rattle.sweep.specs.declared.Processor.{Processor}
+use Rattle.sweep.specs.declared.blocks.Run.{Run}
+use Rattle.sweep.specs.State.{running, runningProcessor, processorOf, frontOf, recentOf, Made}
+use Rattle.sweep.specs.Steps.{still, NoneDue, Stays, Fed, Begins, FeedPost}
+use Rattle.sweep.specs.Post.{Rests, QuietPost}
+use Rattle.sweep.proofs.Staying.{stays-law}
+use Rattle.sweep.proofs.Streaming.{Feeding, feed-start, feed-next, feed-end}
+use Rattle.sweep.proofs.Operations.{mode-of, azimuth-of, taken-of, front-of, recent-of, machine-of}
+
+-- ---- one tick
+
+abbrev none : Planes
+none = record { a = 0; p = 0; n = 0; m = 0 }
+
+-- a tick without flags, as words
+tick-none : (flags : List ℕ) (i : ℕ) → getD flags i 0 ≡ 0 → PackedPart flags i 1 none
+unfolding A P N M
+tick-none flags i e =
+    record {
+      a = part (A flags) (λ m l. ap odd (at m l));
+      p = part (P flags) (λ m l. ap (λ (x : ℕ). odd (x / 2)) (at m l));
+      n = part (N flags) (λ m l. ap (λ (x : ℕ). odd (x / 4)) (at m l));
+      m = part (M flags) (λ m l. ap (λ (x : ℕ). odd (x / 8)) (at m l));
+    }
+  where
+    at : (m : ℕ) → m < 1 → getD flags (i + m) 0 ≡ 0
+    at m l = let z : i ≡ i + m = omega arith in subst (λ (k : ℕ). getD flags k 0 ≡ 0) z e
+
+    part : (F : ℕ → Bool) → ((m : ℕ) → m < 1 → F (i + m) ≡ false) → HoldsPart F i 1 0
+    part F f = record { below = omega arith; at = λ m l. zero-bit m ∙ sym (f m l); rest = λ m l. zero-bit m }
+
+-- a reply that is not due at u was not due before
+not-before : (s : Slot) (u v : ℕ) → v ≤ u → testSlot (ended u) s ≡ false → testSlot (ended v) s ≡ false
+unfolding ended
+not-before Idle u v h e = refl
+not-before (Open r) u v h e = le-ltb (f1 r + 205) v (omega (arith, ltb-false (f1 r + 205) u e))
+
+-- ---- a piece
+
+module _ (o : Run) (recent : List ℕ) (base : ℕ) (flags values b : List ℕ) (bare : (m : ℕ) → m < length flags → getD flags m 0 ≡ 0) (words : still (o .front) ≡ true)
+    (waits : NoneDue (o .machine) (base + length flags)) where
+  stays : (t : ℕ) → t ≤ base + length flags → Stays o none t
+  stays t h =
+      record {
+        planes = refl;
+        words = words;
+        waits = record { open-still = λ l. not-before (o .machine .places .p0 .slot) (base + length flags - 179) (t - 179) (omega arith) (waits .open-still (omega arith)) };
+      }
+
+  resting : (i : ℕ) → i ≤ length flags → Feeding o recent base flags values b b o i
+  resting zero h = feed-start o recent base flags values b
+  resting (suc i) h =
+      subst (λ (k : ℕ). Feeding o recent base flags values b b o k) (add-one i)
+      (feed-next o recent base flags values b b o i 1 (base + (i + 1)) none o b (omega arith) refl (tick-none flags i (bare i (omega arith)))
+      (stays-law o none 1 (base + (i + 1)) recent base values b (omega arith) (stays (base + (i + 1)) (omega arith))) (resting i (omega arith)))
+
+  pub rests-law : FeedPost o recent base flags values b o b
+  rests-law = feed-end o recent base flags values b b o (length flags) (omega arith) (resting (length flags) (omega arith))
+
+-- ---- the take of such a piece
+
+no-replies : (l : List Reply) → 0 ≡ 18 * length l → l ≡ []
+no-replies [] e = refl
+no-replies (r ∷ l) e = absurd (omega arith)
+
+module _ (p : Processor) (flags : List ℕ) (limit : p .taken + length flags ≤ sweepLimit) (r : Bool) (bare : Bare flags r) (is : r ≡ true) (words : still (p .front) ≡ true)
+    (waits : NoneDue (p .machine) (p .taken + length flags)) where
+  module _ (mode azimuth : ℕ) (T : Trace) (values : List ℕ) (made : Made (running mode azimuth T) p) (alike : length flags ≡ length values) (bytes : All (λ v. v ≤ 255) values) where
+    made-as : p ≡ runningProcessor mode azimuth T
+    unfolding processorOf
+    made-as = made .is
+
+    o : Run
+    o = record { front = p .front; machine = p .machine; at = 0 }
+
+    room : List ℕ
+    room = replicate (takeRoom (length flags)) 0
+
+    fed : Fed T (record { flags = flags; values = values }) room o room
+    unfolding o room
+    fed =
+        rests-law o (p .recent) (p .taken) flags values room (bare .yes is) words waits .result T
+        (record {
+          front = front-of mode azimuth T p made-as;
+          machine = machine-of mode azimuth T p made-as;
+          place = refl;
+          kept = recent-of mode azimuth T p made-as;
+          ticks = sym (taken-of mode azimuth T p made-as);
+          alike = made .sound .alike;
+          alike-piece = alike;
+          bytes = made .sound .bytes;
+          bytes-piece = bytes;
+          limit = limit;
+          room = omega (arith, length-replicate {A = ℕ} (takeRoom (length flags)) 0);
+        })
+
+    rests : Rests p mode azimuth T (record { flags = flags; values = values })
+    unfolding o runningProcessor
+    rests =
+        let e1 = mode-of mode azimuth T p made-as in
+        let e2 = azimuth-of mode azimuth T p made-as in
+        let e3 : p .taken + length flags ≡ length (T .flags ++ flags) = omega (arith, taken-of mode azimuth T p made-as, length-append (T .flags) flags) in
+        let e4 = fed .front in
+        let e6 = fed .machine in
+        record {
+          none-due = no-replies (fresh standard T (record { flags = flags; values = values })) (fed .place);
+          processor = λ i. record { mode = e1 i; azimuth = e2 i; taken = e3 i; front = e4 i; recent = recentOf (T .values ++ values); machine = e6 i };
+        }
+
+pub quiet-no : (p : Processor) (flags : List ℕ) → QuietPost p flags false
+quiet-no p flags = record { limit = λ e. absurd (impossible (sym e)); result = λ e. absurd (impossible (sym e)) }
+
+pub quiet-if : (p : Processor) (flags : List ℕ) (r x : Bool) → p .taken + length flags ≤ sweepLimit → Bare flags r → r ≡ true → still (p .front) ≡ true
+    → (x ≡ true → NoneDue (p .machine) (p .taken + length flags)) → QuietPost p flags x
+quiet-if p flags r x limit bare is words waits = record { limit = λ e. limit; result = λ e. rests p flags limit r bare is words (waits e) }
