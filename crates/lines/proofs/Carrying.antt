@@ -134,6 +134,19 @@ module _ (p : Processor) (at : ℕ) (b : List ℕ) where
         output = λ σ m. c .output σ m ∙ ap (λ (x : Outcome). over-at (printed x) at b) (sym (e σ m));
       }
 
+  -- a refusal gives back the processor that went in
+  stop-same : (q : Processor) (k : ℕ) (r : Stepped) (b′ : List ℕ) → ((σ : Sweep) → Made σ p → q ≡ p) → CarryPost (λ σ. stops k) q at b r b′
+      → CarryPost (λ σ. stops k) p at b r b′
+  stop-same q k r b′ e c =
+      record {
+        inside = c .inside;
+        result = λ σ m. c .result σ (made σ m) ∙ ap (λ (x : Processor). steppedBy (stops k) x at) (e σ m);
+        output = λ σ m. c .output σ (made σ m);
+      }
+    where
+      made : (σ : Sweep) → Made σ p → Made σ q
+      made σ m = record { is = e σ m ∙ m .is; sound = m .sound }
+
   module _ (room : at + 339 ≤ length b) where
     -- ---- a refusal
 
@@ -206,12 +219,15 @@ module _ (p : Processor) (at : ℕ) (b : List ℕ) where
       take-answer σ accepted = refl
       take-answer σ (refused k) = refl
 
-      pub take-refused : (k : ℕ) → t .answer ≡ Refused k → (r : Stepped) (b′ : List ℕ) → CarryPost (λ σ. stops k) p at b r b′
+      pub take-refused : (k : ℕ) → t .answer ≡ Refused k → (r : Stepped) (b′ : List ℕ) → CarryPost (λ σ. stops k) (t .processor) at b r b′
           → CarryPost (λ σ. takenAs (takeVerdict σ P 72) σ P) p at b r b′
       take-refused k e r b′ c =
-          carry-as (λ σ. takenAs (takeVerdict σ P 72) σ P) (λ σ. stops k) r b′
-          (λ σ m. ap (λ (v : Verdict). takenAs v σ P)
-          (refused-is (take-verdict σ) (countOf σ P) (t .answer) k (ap (λ (x : Taken). x .answer) (take-is σ m) ∙ take-answer σ (take-verdict σ)) e)) c
+          carry-as (λ σ. takenAs (takeVerdict σ P 72) σ P) (λ σ. stops k) r b′ (λ σ m. ap (λ (v : Verdict). takenAs v σ P) (verdict σ m))
+          (stop-same (t .processor) k r b′
+          (λ σ m. ap (λ (x : Taken). x .processor) (take-is σ m) ∙ ap (λ (v : Verdict). takeAs v σ P .processor) (verdict σ m) ∙ sym (m .is)) c)
+        where
+          verdict : (σ : Sweep) → Made σ p → take-verdict σ ≡ refused k
+          verdict σ m = refused-is (take-verdict σ) (countOf σ P) (t .answer) k (ap (λ (x : Taken). x .answer) (take-is σ m) ∙ take-answer σ (take-verdict σ)) e
 
       pub take-accepted : (n : ℕ) → t .answer ≡ Accepted n → (size e : ℕ) (b′ : List ℕ) → size ≡ 18 * min n 4
           → WritePost (recordLines (length (take size h) / 18) (take size h)) at b e b′
@@ -265,12 +281,15 @@ module _ (p : Processor) (at : ℕ) (b : List ℕ) where
       close-answer σ accepted = refl
       close-answer σ (refused k) = refl
 
-      pub close-refused : (k : ℕ) → t .answer ≡ Refused k → (r : Stepped) (b′ : List ℕ) → CarryPost (λ σ. stops k) p at b r b′
+      pub close-refused : (k : ℕ) → t .answer ≡ Refused k → (r : Stepped) (b′ : List ℕ) → CarryPost (λ σ. stops k) (t .processor) at b r b′
           → CarryPost (λ σ. closedAs (closeVerdict σ 144) σ) p at b r b′
       close-refused k e r b′ c =
-          carry-as (λ σ. closedAs (closeVerdict σ 144) σ) (λ σ. stops k) r b′
-          (λ σ m. ap (λ (v : Verdict). closedAs v σ)
-          (refused-is (close-verdict σ) (leftCount σ) (t .answer) k (ap (λ (x : Closed). x .answer) (close-is σ m) ∙ close-answer σ (close-verdict σ)) e)) c
+          carry-as (λ σ. closedAs (closeVerdict σ 144) σ) (λ σ. stops k) r b′ (λ σ m. ap (λ (v : Verdict). closedAs v σ) (verdict σ m))
+          (stop-same (t .processor) k r b′
+          (λ σ m. ap (λ (x : Closed). x .processor) (close-is σ m) ∙ ap (λ (v : Verdict). closeAs v σ .processor) (verdict σ m) ∙ sym (m .is)) c)
+        where
+          verdict : (σ : Sweep) → Made σ p → close-verdict σ ≡ refused k
+          verdict σ m = refused-is (close-verdict σ) (leftCount σ) (t .answer) k (ap (λ (x : Closed). x .answer) (close-is σ m) ∙ close-answer σ (close-verdict σ)) e
 
       pub close-accepted : (n : ℕ) → t .answer ≡ Accepted n → (size e f : ℕ) (b₁ b′ : List ℕ) → size ≡ 18 * min n 8
           → WritePost (recordLines (length (take size h) / 18) (take size h)) at b e b₁ → WritePost (totalsLine (t .totals)) e b₁ f b′

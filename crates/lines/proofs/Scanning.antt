@@ -3,7 +3,7 @@ use Prim.Native.Nat.{ℕ, zero, suc, _+_, _-_, _*_, _≤_, _<_}
 use native.Mathlib.Omega.{arith}
 use mathlib.Core.Path.{_≡_, refl, sym, ap, ap₂, _∙_, subst}
 use mathlib.Core.Logic.{_⊎_, inl, inr}
-use mathlib.Core.Bool.{Bool, true, false, not, cond, _&&_}
+use mathlib.Core.Bool.{Bool, true, false, not, cond, _&&_, _||_}
 use mathlib.Core.List.{List, [], _∷_, _++_, append-assoc, append-nil}
 use lib.Dec.{leb, ltb, eqb}
 use lib.ListN.{length, getD, take, drop, length-append, length-drop, take-append-drop}
@@ -13,7 +13,7 @@ use Rattle.rules.specs.Lists.{All}
 use Rattle.rules.specs.Samples.{Trace, _⧺_, sweepLimit}
 use Rattle.rules.specs.Buffers.{over-at}
 use Rattle.rules.specs.Calls.{Answer as Verdict, accepted, refused, openAnswer, takeAnswer}
-use Rattle.rules.proofs.Truth.{and-left}
+use Rattle.rules.proofs.Truth.{and-left, or-left, or-right}
 use Rattle.rules.proofs.ListLaws.{all-append}
 use Rattle.rules.proofs.Buffers.{over-at-nil, over-at-next}
 use Rattle.sweep.specs.declared.Processor.{Processor}
@@ -33,7 +33,64 @@ use Rattle.lines.specs.declared.scan.Scan.the-variants.{Rest, Stopped}
 use Rattle.lines.specs.declared.scan.Scan.the-variants.{Full as NoRoom}
 use Rattle.lines.specs.declared.scan.Scanned.{Scanned}
 use Rattle.lines.specs.Survey.{Outcome, goes, stops, openedAs, takenAs, closedAs, carried, lineAt, printed, onto, linesIn, further, surveyed}
-use Rattle.lines.specs.Post.{steppedBy, steppedAs, outputAs, roomy, placeOf, StepPost, NoNewline, LineEnd, LinePast, EndPost, afterwards, Scans, Because, ScanPost}
+use Rattle.lines.specs.Post.{steppedBy, steppedAs, outputAs, roomy, placeOf, StepPost, NoNewline, Passed, LineEnd, LinePast, EndPost, afterwards, Scans, Because, ScanPost}
+
+-- ---- bytes without a newline
+
+no-bytes : (input : List ℕ) (from to : ℕ) → to ≤ from → NoNewline input from to
+no-bytes input from to h = record { none = λ k a b e. omega arith }
+
+one-byte-more : (input : List ℕ) (from to to′ : ℕ) → to′ ≡ to + 1 → NoNewline input from to → (getD input to 0 ≡ 10 → ⊥) → NoNewline input from to′
+one-byte-more input from to to′ z h d = record { none = λ k a b e. go k a b e (ltb k to) refl }
+  where
+    go : (k : ℕ) → from ≤ k → k < to′ → getD input k 0 ≡ 10 → (t : Bool) → ltb k to ≡ t → ⊥
+    go k a b e true q = h .none k a (ltb-true k to q) e
+    go k a b e false q = d (ap (λ (j : ℕ). getD input j 0) {x = to} {y = k} (omega (arith, ltb-false k to q)) ∙ e)
+
+more-bytes : (input : List ℕ) (from i to : ℕ) → NoNewline input from i → NoNewline input i to → NoNewline input from to
+more-bytes input from i to h g = record { none = λ k a b e. go k a b e (ltb k i) refl }
+  where
+    go : (k : ℕ) → from ≤ k → k < to → getD input k 0 ≡ 10 → (t : Bool) → ltb k i ≡ t → ⊥
+    go k a b e true q = h .none k a (ltb-true k i q) e
+    go k a b e false q = g .none k (ltb-false k i q) b e
+
+-- the bytes from `from` to before place from + k are looked at
+pub record Noticed (input : List ℕ) (from k : ℕ) (seen : Bool) : Type 0 where
+  pub most : k ≤ 32
+  pub before : seen ≡ false → NoNewline input from (from + k)
+
+module _ (input : List ℕ) (from : ℕ) where
+  pub noticed-none : Noticed input from 0 false
+  noticed-none = record { most = omega arith; before = λ z. no-bytes input from (from + 0) (omega arith) }
+
+  pub noticed-next : (k : ℕ) (seen : Bool) → k < 32 → Noticed input from k seen → Noticed input from (k + 1) (seen || eqb (getD input (from + k) 0) 10)
+  noticed-next k seen l h =
+      record {
+        most = omega arith;
+        before = λ z.
+            one-byte-more input from (from + k) (from + (k + 1)) (omega arith) (h .before (or-left seen (eqb (getD input (from + k) 0) 10) z))
+            (eqb-false (getD input (from + k) 0) 10 (or-right seen (eqb (getD input (from + k) 0) 10) z));
+      }
+
+  pub noticed-all : (k : ℕ) (seen : Bool) → 32 ≤ k → Noticed input from k seen → seen ≡ false → NoNewline input from (from + 32)
+  noticed-all k seen l h z = more-bytes input from (from + k) (from + 32) (h .before z) (no-bytes input (from + k) (from + 32) (omega arith))
+
+-- k times 32 bytes are passed
+pub record Passing (input : List ℕ) (from i k : ℕ) : Type 0 where
+  pub most : k ≤ 8
+  pub place : i ≡ from + 32 * k
+  pub before : NoNewline input from i
+
+module _ (input : List ℕ) (from : ℕ) where
+  pub passing-start : Passing input from from 0
+  passing-start = record { most = omega arith; place = omega arith; before = no-bytes input from from (omega arith) }
+
+  module _ (i k : ℕ) (h : Passing input from i k) where
+    pub passing-next : k < 8 → NoNewline input i (i + 32) → Passing input from (i + 32) (k + 1)
+    passing-next l g = record { most = omega arith; place = omega (arith, h .place); before = more-bytes input from i (i + 32) (h .before) g }
+
+    pub passing-end : Passed input from i
+    passing-end = record { start = omega (arith, h .place); most = omega (arith, h .place, h .most); before = h .before }
 
 -- ---- where a line ends
 
@@ -44,8 +101,9 @@ pub record Looking (input : List ℕ) (from i left : ℕ) : Type 0 where
   pub seen : NoNewline input from i
 
 module _ (input : List ℕ) (from : ℕ) where
-  pub looking-start : Looking input from from 259
-  looking-start = record { start = omega arith; sum = omega arith; some = omega arith; seen = record { none = λ k a b e. omega arith } }
+  pub looking-start : (i : ℕ) → Passed input from i → Looking input from i (259 - (i - from))
+  looking-start i h =
+      record { start = h .start; sum = omega (arith, h .start, h .most); some = omega (arith, h .most); seen = h .before }
 
   module _ (i left : ℕ) (h : Looking input from i left) (more : i < length input) where
     upTo : NoNewline input from (i + 1 - 1)
@@ -69,12 +127,8 @@ module _ (input : List ℕ) (from : ℕ) where
           start = omega (arith, h .start);
           sum = omega (arith, h .sum, h .some);
           some = omega (arith, z);
-          seen = record { none = λ k a b e. go k a b e (ltb k i) refl };
+          seen = one-byte-more input from i (i + 1) refl (h .seen) d;
         }
-      where
-        go : (k : ℕ) → from ≤ k → k < i + 1 → getD input k 0 ≡ 10 → (t : Bool) → ltb k i ≡ t → ⊥
-        go k a b e true q = h .seen .none k a (ltb-true k i q) e
-        go k a b e false q = d (ap (λ (j : ℕ). getD input j 0) {x = i} {y = k} (omega (arith, ltb-false k i q)) ∙ e)
 
   pub looking-past : (i left : ℕ) → length input ≤ i → Looking input from i left → EndPost input from Past
   looking-past i left l h =

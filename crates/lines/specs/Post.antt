@@ -96,6 +96,12 @@ countIn (Refused k) = 0
 pub record NoNewline (input : List ℕ) (from to : ℕ) : Type 0 where
   pub none : (k : ℕ) → from ≤ k → k < to → getD input k 0 ≡ 10 → ⊥
 
+-- the line that begins at `from` goes on to `to` at least
+pub record Passed (input : List ℕ) (from to : ℕ) : Type 0 where
+  pub start : from ≤ to
+  pub most : to ≤ from + 256
+  pub before : NoNewline input from to
+
 -- a line begins at `from` and ends before `to`: with a newline, or at 259 bytes, which are no line any more
 pub record LineEnd (input : List ℕ) (from to : ℕ) : Type 0 where
   pub some : from < to

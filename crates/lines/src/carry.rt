@@ -81,10 +81,10 @@ fn taken(p: Processor, flags: &[u8], values: &[u8], out: &mut [u8], at: usize) -
     let mut handed = [0u8; 72];
     let t = take(p, flags, values, &mut handed);
     let answer = t.answer;
+    let next = t.processor;
     match answer {
-        Answer::Refused(number) => stop(p, number, out, at),
+        Answer::Refused(number) => stop(next, number, out, at),
         Answer::Accepted(count) => {
-            let next = t.processor;
             let size = 18 * least(count, 4);
             let end = reply_lines(&handed[..size], out, at);
             Stepped {
@@ -102,10 +102,10 @@ fn closed(p: Processor, out: &mut [u8], at: usize) -> Stepped
     let mut handed = [0u8; 144];
     let c = close(p, &mut handed);
     let answer = c.answer;
+    let next = c.processor;
     match answer {
-        Answer::Refused(number) => stop(p, number, out, at),
+        Answer::Refused(number) => stop(next, number, out, at),
         Answer::Accepted(count) => {
-            let next = c.processor;
             let totals = c.totals;
             let size = 18 * least(count, 8);
             let place = reply_lines(&handed[..size], out, at);
