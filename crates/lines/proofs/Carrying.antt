@@ -79,17 +79,17 @@ accepted-is (refused j) n x m e r = absurd (true≢false (ap isRefused (sym e �
 
 -- ---- lines written where there is room
 
-record Wrote (l : List ℕ) (at : ℕ) (b : List ℕ) (e : ℕ) (b′ : List ℕ) : Type 0 where
-  place : e ≡ at + length l
-  buffer : b′ ≡ over-at l at b
+pub record Wrote (l : List ℕ) (at : ℕ) (b : List ℕ) (e : ℕ) (b′ : List ℕ) : Type 0 where
+  pub place : e ≡ at + length l
+  pub buffer : b′ ≡ over-at l at b
 
-wrote : (l : List ℕ) (at : ℕ) (b : List ℕ) (e : ℕ) (b′ : List ℕ) → at + length l ≤ length b → WritePost l at b e b′ → Wrote l at b e b′
+pub wrote : (l : List ℕ) (at : ℕ) (b : List ℕ) (e : ℕ) (b′ : List ℕ) → at + length l ≤ length b → WritePost l at b e b′ → Wrote l at b e b′
 wrote l at b e b′ h w =
     let t = le-leb (at + length l) (length b) h in
     record { place = w .result ∙ ap (λ (x : Bool). placeBehind x l at) t; buffer = w .buffer ∙ ap (λ (x : Bool). bufferWith x l at b) t }
 
 -- in any case not past the end
-write-inside : (l : List ℕ) (at : ℕ) (b : List ℕ) (e : ℕ) (b′ : List ℕ) → at ≤ length b → WritePost l at b e b′ → e ≤ length b
+pub write-inside : (l : List ℕ) (at : ℕ) (b : List ℕ) (e : ℕ) (b′ : List ℕ) → at ≤ length b → WritePost l at b e b′ → e ≤ length b
 write-inside l at b e b′ h w = go (leb (at + length l) (length b)) refl
   where
     go : (t : Bool) → leb (at + length l) (length b) ≡ t → e ≤ length b

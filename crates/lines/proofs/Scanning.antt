@@ -23,6 +23,7 @@ use Rattle.sweep.proofs.Answers.{took}
 use Rattle.frames.specs.Frames.{Reading, opening, samples, closing, reading}
 use Rattle.frames.specs.Frames.{refused as unread}
 use Rattle.frames.specs.Writing.{refusalLine}
+use Rattle.frames.specs.Post.{WritePost}
 use Rattle.frames.proofs.Sizes.{Sized, reading-sized, no-newline, too-long}
 use Rattle.lines.specs.declared.carry.Step.{Step}
 use Rattle.lines.specs.declared.carry.Step.the-variants.{Goes, Stops, Full}
@@ -33,7 +34,8 @@ use Rattle.lines.specs.declared.scan.Scan.the-variants.{Rest, Stopped}
 use Rattle.lines.specs.declared.scan.Scan.the-variants.{Full as NoRoom}
 use Rattle.lines.specs.declared.scan.Scanned.{Scanned}
 use Rattle.lines.specs.Survey.{Outcome, goes, stops, openedAs, takenAs, closedAs, carried, lineAt, printed, onto, linesIn, further, surveyed}
-use Rattle.lines.specs.Post.{steppedBy, steppedAs, outputAs, roomy, placeOf, StepPost, NoNewline, Passed, LineEnd, LinePast, EndPost, afterwards, Scans, Because, ScanPost}
+use Rattle.lines.specs.Post.{steppedBy, steppedAs, outputAs, roomy, placeOf, StepPost, RestPost, NoNewline, Passed, LineEnd, LinePast, EndPost, afterwards, Scans, Because, ScanPost}
+use Rattle.lines.proofs.Carrying.{Wrote, wrote, write-inside}
 
 -- ---- bytes without a newline
 
@@ -510,3 +512,26 @@ survey-rest l σ h s =
     let p : Plain l = plain l (λ k q e. h .before .none k (omega arith) q e) in
     let n = nine σ l (no-newline l (plain-last l p s)) in
     (ap (λ (ls : List (List ℕ)). surveyed ls σ) (lines-rest l p s) ∙ ap (λ (o : Outcome). further o (surveyed [])) n ∙ ap printed (sym n), n)
+
+-- so that nothing of them, and nothing of the sweep, has to be looked at
+module _ (at : ℕ) (b : List ℕ) where
+  pub rest-full : roomy at b ≡ false → RestPost at b Full b
+  rest-full z =
+      record {
+        inside = λ h. h;
+        result = λ σ p l h s. ap (λ (t : Bool). steppedAs t (lineAt σ l) p at) (sym z);
+        output = λ σ l h s. ap (λ (t : Bool). outputAs t (lineAt σ l) at b) (sym z);
+      }
+
+  pub rest-stops : roomy at b ≡ true → (e : ℕ) (b′ : List ℕ) → WritePost (refusalLine 9) at b e b′ → RestPost at b (Stops 9 e) b′
+  rest-stops z e b′ w =
+      record {
+        inside = λ h. write-inside (refusalLine 9) at b e b′ h w;
+        result = λ σ p l h s.
+            ap (λ (x : ℕ). record { step = Stops 9 x; processor = p }) (done .place)
+            ∙ ap₂ (λ (t : Bool) (o : Outcome). steppedAs t o p at) (sym z) (sym (survey-rest l σ h s .1));
+        output = λ σ l h s. done .buffer ∙ ap₂ (λ (t : Bool) (o : Outcome). outputAs t o at b) (sym z) (sym (survey-rest l σ h s .1));
+      }
+    where
+      done : Wrote (refusalLine 9) at b e b′
+      done = wrote (refusalLine 9) at b e b′ (omega (arith, leb-true (at + 339) (length b) z)) w

@@ -114,6 +114,12 @@ pub record LinePast (input : List ℕ) (from : ℕ) : Type 0 where
   pub short : length input < from + 259
   pub before : NoNewline input from (length input)
 
+-- What is left at the end of the input, bytes without a newline, is a last line: what any such line makes of any sweep, and prints.
+pub record RestPost (at : ℕ) (b : List ℕ) (r : Step) (b′ : List ℕ) : Type 0 where
+  pub inside : at ≤ length b → placeOf r at ≤ length b
+  pub result : (σ : Sweep) (p : Processor) (l : List ℕ) → LinePast l 0 → 0 < length l → record { step = r; processor = p } ≡ steppedAs (roomy at b) (lineAt σ l) p at
+  pub output : (σ : Sweep) (l : List ℕ) → LinePast l 0 → 0 < length l → b′ ≡ outputAs (roomy at b) (lineAt σ l) at b
+
 abbrev pub EndPost : List ℕ → ℕ → End → Type 0
 EndPost input from (At to) = LineEnd input from to
 EndPost input from Past = LinePast input from

@@ -6,7 +6,7 @@ ghost use lib.ListN.{length};
 ghost use Rattle.rules.specs.Calls.{openAnswer};
 ghost use Rattle.sweep.specs.Post.{takeVerdict, closeVerdict};
 ghost use Rattle.lines.specs.Survey.{stops, openedAs, takenAs, closedAs};
-ghost use Rattle.lines.specs.Post.{CarryPost, StepPost, pieceOf, saidAt, numberOf, countIn, roomy as roomy′};
+ghost use Rattle.lines.specs.Post.{CarryPost, StepPost, RestPost, pieceOf, saidAt, numberOf, countIn, roomy as roomy′};
 use frames::Frame;
 use frames::Line;
 use frames::read;
@@ -174,4 +174,15 @@ pub fn line_step(p: Processor, line: &[u8], out: &mut [u8], at: usize) -> Steppe
     let mut values = [0u8; 64];
     let said = read(line, &mut flags, &mut values);
     carry_out(p, said, &flags, &values, out, at)
+}
+
+// What the bytes left at the end of the input print. No newline ends them, so that they are refused, whatever the sweep is.
+pub fn rest_step(out: &mut [u8], at: usize) -> Step
+    ensures { λ r. ⌜ RestPost at (now (out .entry)) r (now (out .exit)) ⌝ }
+{
+    if !roomy(out, at) {
+        return Step::Full;
+    }
+    let end = refusal_line(9, out, at);
+    Step::Stops(9, end)
 }

@@ -5,6 +5,7 @@ mod scan;
 pub use carry::Step;
 pub use carry::Stepped;
 pub use carry::line_step;
+pub use carry::rest_step;
 pub use scan::Scan;
 pub use scan::Scanned;
 pub use scan::scan_lines;
