@@ -28,13 +28,15 @@ use Rattle.frames.proofs.Sizes.{Sized, reading-sized, no-newline, too-long}
 use Rattle.lines.specs.declared.carry.Step.{Step}
 use Rattle.lines.specs.declared.carry.Step.the-variants.{Goes, Stops, Full}
 use Rattle.lines.specs.declared.carry.Stepped.{Stepped}
-use Rattle.lines.specs.declared.scan.End.{End}
-use Rattle.lines.specs.declared.scan.End.the-variants.{At, Past}
+use Rattle.lines.specs.declared.ends.End.{End}
+use Rattle.lines.specs.declared.ends.End.the-variants.{At, Past}
 use Rattle.lines.specs.declared.scan.Scan.the-variants.{Rest, Stopped}
 use Rattle.lines.specs.declared.scan.Scan.the-variants.{Full as NoRoom}
 use Rattle.lines.specs.declared.scan.Scanned.{Scanned}
 use Rattle.lines.specs.Survey.{Outcome, goes, stops, openedAs, takenAs, closedAs, carried, lineAt, printed, onto, linesIn, further, surveyed}
 use Rattle.lines.specs.Post.{steppedBy, steppedAs, outputAs, roomy, placeOf, StepPost, RestPost, NoNewline, Passed, LineEnd, LinePast, EndPost, afterwards, Scans, Because, ScanPost}
+use Rattle.lines.specs.declared.batch.Batched.{Batched}
+use Rattle.lines.specs.Batches.{BatchPost}
 use Rattle.lines.proofs.Carrying.{Wrote, wrote, write-inside}
 
 -- ---- bytes without a newline
@@ -147,7 +149,7 @@ plain [] h = tt
 plain (c ∷ l) h = (h 0 (omega arith), plain l (λ k s. h (suc k) (omega arith)))
 
 -- the bytes from one place to another
-abbrev part : List ℕ → ℕ → ℕ → List ℕ
+abbrev pub part : List ℕ → ℕ → ℕ → List ℕ
 part input from to = take (to - from) (drop from input)
 
 part-plain : (input : List ℕ) (from to : ℕ) → from ≤ to → to ≤ length input → NoNewline input from to → Plain (part input from to)
@@ -264,7 +266,7 @@ module _ (input : List ℕ) (from to : ℕ) (h : LineEnd input from to) where
 
 -- ---- the sweep that goes on is one that accepted calls make
 
-abbrev Good : Outcome → Type 0
+abbrev pub Good : Outcome → Type 0
 Good (goes σ l) = Sound σ
 Good (stops k) = Unit {0}
 
@@ -278,13 +280,13 @@ good-open mode azimuth = go (leb 1 mode && leb mode 3) (ltb 16383 azimuth) refl
     go true false e =
         record { named = leb-true 1 mode (and-left (leb 1 mode) (leb mode 3) e); alike = refl; short = omega arith; bytes = tt }
 
-good-take : (σ : Sweep) → Sound σ → (P : Trace) → All (λ v. v ≤ 255) (P .values) → (v : Verdict) → takeVerdict σ P 72 ≡ v → Good (takenAs v σ P)
+pub good-take : (σ : Sweep) → Sound σ → (P : Trace) → All (λ v. v ≤ 255) (P .values) → (room : ℕ) (v : Verdict) → takeVerdict σ P room ≡ v → Good (takenAs v σ P)
 unfolding takeVerdict
-good-take none s P b accepted e = tt
-good-take none s P b (refused k) e = tt
-good-take (running mode azimuth T) s P b (refused k) e = tt
-good-take (running mode azimuth T) s P b accepted e =
-    let t = took true (length (T .flags)) (P .flags) (P .values) 72 e in
+good-take none s P b room accepted e = tt
+good-take none s P b room (refused k) e = tt
+good-take (running mode azimuth T) s P b room (refused k) e = tt
+good-take (running mode azimuth T) s P b room accepted e =
+    let t = took true (length (T .flags)) (P .flags) (P .values) room e in
     record {
       named = s .named;
       alike = length-append (T .flags) (P .flags) ∙ ap₂ (λ (x y : ℕ). x + y) (s .alike) (t .alike) ∙ sym (length-append (T .values) (P .values));
@@ -298,7 +300,7 @@ good-close σ (refused k) = tt
 
 good-carried : (σ : Sweep) → Sound σ → (x : Reading) → Sized x → Good (carried σ x)
 good-carried σ s (opening mode azimuth) z = good-open mode azimuth
-good-carried σ s (samples P) z = good-take σ s P (z .bytes) (takeVerdict σ P 72) refl
+good-carried σ s (samples P) z = good-take σ s P (z .bytes) 72 (takeVerdict σ P 72) refl
 good-carried σ s closing z = good-close σ (closeVerdict σ 144)
 good-carried σ s (unread k) z = tt
 
@@ -392,6 +394,36 @@ module _ (p : Processor) (input : List ℕ) (from at : ℕ) (b₀ : List ℕ) wh
   module _ (q : Processor) (i place : ℕ) (b : List ℕ) (h : Scanning p input from at b₀ q i place b) where
     pub scanned-rest : LinePast input i → ScanPost p input from at b₀ (record { scan = Rest; processor = q; from = i; at = place }) b
     scanned-rest e = record { reach = h .reach; inside = h .inside; because = λ σ m. e; scans = h .scans }
+
+    -- lines of samples, carried out together
+    pub scanning-batch : (r : Batched) (b′ : List ℕ) → length b′ ≡ length b → BatchPost q input i place b r b′ → Scanning p input from at b₀ (r .processor) (r .from) (r .at) b′
+    scanning-batch r b′ l g = go (leb place (length b)) refl
+      where
+        go : (t : Bool) → leb place (length b) ≡ t → Scanning p input from at b₀ (r .processor) (r .from) (r .at) b′
+        go false z =
+            let s = g .still (leb-false place (length b) z) in
+            subst (λ (x : Batched). Scanning p input from at b₀ (x .processor) (x .from) (x .at) b′) (sym (s .0))
+            (subst (Scanning p input from at b₀ q i place) (sym (s .1)) h)
+        go true z =
+            record {
+              size = l ∙ h .size;
+              reach = λ x. g .reach (h .reach x);
+              inside = λ x. omega (arith, g .inside (leb-true place (length b) z), h .size);
+              scans = λ σ m.
+                  let d = h .scans σ m in
+                  let w = g .scans (d .next) (d .made) in
+                  record {
+                    new = d .new ++ w .new;
+                    next = w .next;
+                    made = w .made;
+                    place = omega (arith, w .place, d .place, length-append (d .new) (w .new));
+                    output = over-at-next (d .new) (w .new) b₀ b b′ at place (d .place) (omega (arith, leb-true place (length b) z, h .size)) (d .output) (w .output);
+                    why = tt;
+                    same = λ R.
+                        d .same R ∙ ap (λ (x : List ℕ). d .new ++ x) (w .same R)
+                        ∙ sym (append-assoc (d .new) (w .new) (surveyed (linesIn (drop (r .from) input ++ R)) (w .next)));
+                  };
+            }
 
     module _ (to : ℕ) (line : LineEnd input i to) (s : Stepped) (b′ : List ℕ) (step : StepPost q (part input i to) place b s b′) where
       -- the line goes on, with what it printed behind what was

@@ -20,8 +20,8 @@ use Rattle.frames.specs.Writing.{refusalLine}
 use Rattle.lines.specs.declared.carry.Step.{Step}
 use Rattle.lines.specs.declared.carry.Step.the-variants.{Goes, Stops, Full}
 use Rattle.lines.specs.declared.carry.Stepped.{Stepped}
-use Rattle.lines.specs.declared.scan.End.{End}
-use Rattle.lines.specs.declared.scan.End.the-variants.{At, Past}
+use Rattle.lines.specs.declared.ends.End.{End}
+use Rattle.lines.specs.declared.ends.End.the-variants.{At, Past}
 use Rattle.lines.specs.declared.scan.Scan.{Scan}
 use Rattle.lines.specs.declared.scan.Scan.the-variants.{Rest, Stopped}
 use Rattle.lines.specs.declared.scan.Scan.the-variants.{Full as NoRoom}

@@ -64,7 +64,7 @@ fn opened(p: Processor, mode: u8, azimuth: u16, out: &mut [u8], at: usize) -> St
 }
 
 // At most so many.
-fn least(n: usize, most: usize) -> usize
+pub fn least(n: usize, most: usize) -> usize
     ensures { λ r. ⌜ r ≡ min n most ⌝ }
 {
     if n < most {

@@ -1,5 +1,7 @@
 // What the lines of an input make of a survey, and what they print: one line, and as many as an input has.
+mod batch;
 mod carry;
+mod ends;
 mod scan;
 
 pub use carry::Step;

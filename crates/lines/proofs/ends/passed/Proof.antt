@@ -1,11 +1,11 @@
 use Rattle.lines.proofs.Scanning.{Passing, passing-start, passing-next, passing-end}
 use native.Mathlib.Omega.{arith}
 use Prim.Native.Nat.{_-_}
-use Rattle.lines.proofs.scan.passed.Statement.{statement}
-use Rattle.lines.proofs.scan.passed.Tie as tie
-use Rattle.lines.proofs.scan.passed.Reads as reads
-use Rattle.lines.proofs.scan.passed.Lts as lts
-use Rattle.lines.proofs.scan.has_newline.Reads as has-newline-reads
+use Rattle.lines.proofs.ends.passed.Statement.{statement}
+use Rattle.lines.proofs.ends.passed.Tie as tie
+use Rattle.lines.proofs.ends.passed.Reads as reads
+use Rattle.lines.proofs.ends.passed.Lts as lts
+use Rattle.lines.proofs.ends.has_newline.Reads as has-newline-reads
 
 abbrev Inv-loop : tie.InvT-loop
 Inv-loop input from n i₀ k₀ i k = Passing input from i k

@@ -2,11 +2,11 @@ use Rattle.lines.proofs.Scanning.{Looking, looking-start, found-newline
 use native.Mathlib.Omega.{arith}
 use lib.ListN.{length}
 use Prim.Native.Nat.{_-_}
-use Rattle.lines.proofs.scan.line_end.Statement.{statement}
-use Rattle.lines.proofs.scan.line_end.Tie as tie
-use Rattle.lines.proofs.scan.line_end.Reads as reads
-use Rattle.lines.proofs.scan.line_end.Lts as lts
-use Rattle.lines.proofs.scan.passed.Reads as passed-reads
+use Rattle.lines.proofs.ends.line_end.Statement.{statement}
+use Rattle.lines.proofs.ends.line_end.Tie as tie
+use Rattle.lines.proofs.ends.line_end.Reads as reads
+use Rattle.lines.proofs.ends.line_end.Lts as lts
+use Rattle.lines.proofs.ends.passed.Reads as passed-reads
 
 abbrev Inv-loop : tie.InvT-loop
 Inv-loop input from n i₀ left₀ i left = Looking input from i left

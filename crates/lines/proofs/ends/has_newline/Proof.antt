@@ -1,10 +1,10 @@
 use Rattle.lines.proofs.Scanning.{Noticed, noticed-none, noticed-next, noticed-all}
 use native.Mathlib.Omega.{arith}
 use Prim.Native.Nat.{_-_}
-use Rattle.lines.proofs.scan.has_newline.Statement.{statement}
-use Rattle.lines.proofs.scan.has_newline.Tie as tie
-use Rattle.lines.proofs.scan.has_newline.Reads as reads
-use Rattle.lines.proofs.scan.has_newline.Lts as lts
+use Rattle.lines.proofs.ends.has_newline.Statement.{statement}
+use Rattle.lines.proofs.ends.has_newline.Tie as tie
+use Rattle.lines.proofs.ends.has_newline.Reads as reads
+use Rattle.lines.proofs.ends.has_newline.Lts as lts
 
 abbrev Inv-loop : tie.InvT-loop
 Inv-loop input from seen₀ k₀ seen k = Noticed input from k seen
