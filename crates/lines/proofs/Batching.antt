@@ -3,15 +3,15 @@ use Prim.Native.Nat.{ℕ, zero, suc, _+_, _-_, _*_, _/_, _≤_, _<_, min}
 use native.Mathlib.Omega.{arith}
 use mathlib.Core.Path.{_≡_, refl, sym, ap, ap₂, _∙_, subst}
 use mathlib.Core.Logic.{_⊎_, inl, inr}
-use mathlib.Core.Bool.{Bool, true, false, not, cond, _||_}
+use mathlib.Core.Bool.{Bool, true, false, not, cond, _&&_, _||_}
 use mathlib.Core.List.{List, [], _∷_, _++_, append-assoc, append-nil}
-use lib.Dec.{leb, ltb, eqb}
-use lib.ListN.{length, getD, take, drop, set, length-append, length-drop}
-use lib.Seq.{length-take-le, take-suc, take-append-seam, take-at}
-use borrow.Author.Tests.{leb-true, leb-false, eq-eqb, le-ltb}
+use lib.Dec.{ltb, eqb}
+use lib.ListN.{length, getD, take, drop, set, length-append, take-append-drop}
+use lib.Seq.{length-take-le, take-suc, take-take, take-append-seam, take-at}
+use borrow.Author.Tests.{lt-leb, le-leb, eq-eqb, le-ltb}
 use Rattle.rules.specs.declared.Reply.{Reply}
 use Rattle.rules.specs.Settings.{standard}
-use Rattle.rules.specs.Lists.{any, All}
+use Rattle.rules.specs.Lists.{any}
 use Rattle.rules.specs.Samples.{Trace, _⧺_, bad, pieceLimit, sweepLimit}
 use Rattle.rules.specs.Buffers.{over, over-at}
 use Rattle.rules.specs.Calls.{Answer as Verdict, accepted, refused, takeAnswer, takeRoom, fresh, handed}
@@ -23,7 +23,7 @@ use Rattle.rules.proofs.HandingOut.{fresh-most}
 use Rattle.sweep.specs.declared.Answer.the-variants.{Accepted, Refused}
 use Rattle.sweep.specs.declared.Processor.{Processor}
 use Rattle.sweep.specs.declared.Taken.{Taken}
-use Rattle.sweep.specs.State.{Sweep, none, running, isOpen, takenBy, processorOf, Within, Sound, Made}
+use Rattle.sweep.specs.State.{Sweep, none, running, Sound, Made}
 use Rattle.sweep.specs.Post.{longer, takeVerdict, TakePost}
 use Rattle.sweep.proofs.Answers.{standard-allowed, took, join-assoc, join-nothing}
 use Rattle.frames.specs.declared.Line.{Line}
@@ -38,9 +38,18 @@ use Rattle.lines.specs.declared.batch.Batched.{Batched}
 use Rattle.lines.specs.declared.scan.Scan.the-variants.{Rest}
 use Rattle.lines.specs.Survey.{Outcome, goes, takenAs, freshOf, carried, lineAt, linesIn, further, surveyed}
 use Rattle.lines.specs.Post.{pieceOf, countIn, LineEnd, Scans}
-use Rattle.lines.specs.Batches.{samplesIn, AddPost, Takes, Gathered, GatherPost, batchAs, printedAs, TakeAllPost, BatchPost}
-use Rattle.lines.proofs.Carrying.{Wrote, wrote, write-inside, turned-down, given-back, carried-out, went-on, replies-wrote}
-use Rattle.lines.proofs.Scanning.{Good, good-take, part, survey-first}
+use Rattle.lines.specs.Batches.{beginsSamples, samplesIn, AddPost, Takes, Gathered, GatherPost, batchAs, printedAs, TakeAllPost, BatchPost}
+use Rattle.lines.proofs.Carrying.{Wrote, write-inside, flags-lent, values-lent, said-most, turned-down, given-back, carried-out, went-on, replies-wrote}
+use Rattle.lines.proofs.Scanning.{good-take, part, survey-first}
+
+-- ---- the first two characters
+
+module _ (input : List ℕ) (from : ℕ) where
+  pub begins-short : length input < from + 2 → false ≡ beginsSamples input from
+  begins-short h = rw (lt-leb (from + 2) (length input) h)
+
+  pub begins-long : from + 2 ≤ length input → (eqb (getD input from 0) 48 && eqb (getD input (from + 1) 0) 50) ≡ beginsSamples input from
+  begins-long h = rw (le-leb (from + 2) (length input) h)
 
 -- ---- bytes put behind others
 
@@ -60,11 +69,16 @@ module _ (l : List ℕ) (k : ℕ) (short : k ≤ length l) (n : ℕ) (b₀ : Lis
   pub append-end : (b : List ℕ) (i : ℕ) → k ≤ i → Putting (firstOnes l) k n b₀ b i → b ≡ over-at (take k l) n b₀
   append-end b i h s = s .is ∙ ap (λ (j : ℕ). over-at (take j l) n b₀) {x = i} {y = k} (omega (arith, h, s .most))
 
--- the bytes before a place, and those put there
-taken-over : (l b : List ℕ) (n m : ℕ) → n ≤ length b → m ≡ n + length l → take m (over-at l n b) ≡ take n b ++ l
+-- the bytes before a place, and the first of those put there
+behind-over : (l b : List ℕ) (n k : ℕ) → n ≤ length b → k ≤ length l → take (n + k) (over-at l n b) ≡ take n b ++ take k l
 unfolding over-at
-taken-over l b n m h e =
-    take-at (take n b ++ l) (drop (n + length l) b) m (length-append (take n b) l ∙ omega (arith, e, length-take-le n b h))
+behind-over l b n k h m =
+    ap (take (n + k))
+    (ap (λ (x : List ℕ). (take n b ++ x) ++ drop (n + length l) b) (sym (take-append-drop k l))
+    ∙ ap (λ (x : List ℕ). x ++ drop (n + length l) b) (sym (append-assoc (take n b) (take k l) (drop k l)))
+    ∙ append-assoc (take n b ++ take k l) (drop k l) (drop (n + length l) b))
+    ∙ take-at (take n b ++ take k l) (drop k l ++ drop (n + length l) b) (n + k)
+    (length-append (take n b) (take k l) ∙ omega (arith, length-take-le n b h, length-take-le k l m))
 
 -- ---- the samples of a line
 
@@ -91,15 +105,33 @@ module _ (n : ℕ) (f₀ v₀ f v : List ℕ) (flags values : List ℕ) where
   counted closing = refl
   counted (unread k) = refl
 
-  pub add-post : (line : List ℕ) (said : Line) → ReadPost line f₀ v₀ said f v → (k : ℕ) → k ≡ countIn said → (flags′ values′ : List ℕ)
-      → flags′ ≡ over-at (take k f) n flags → values′ ≡ over-at (take k v) n values → AddPost line n flags values k flags′ values′
-  add-post line said r k e flags′ values′ p q =
-      let count : k ≡ countIn (lineOf (reading line)) = e ∙ ap countIn (r .result) in
+  pub add-post : (line : List ℕ) (said : Line) → ReadPost line f₀ v₀ said f v → length f₀ ≡ 64 → length v₀ ≡ 64 → n + 64 ≤ length flags → n + 64 ≤ length values
+      → (k : ℕ) → k ≡ countIn said → (flags′ values′ : List ℕ) → flags′ ≡ over-at (take 64 f) n flags → values′ ≡ over-at (take 64 v) n values
+      → AddPost line n flags values k flags′ values′
+  add-post line said r f-size v-size f-room v-room k e flags′ values′ p q =
       record {
         count = count ∙ counted (reading line);
-        flagBytes = p ∙ ap (λ (l : List ℕ). over-at l n flags) (ap₂ take count (r .flagBytes) ∙ added (reading line) (reading-sized line));
-        valueBytes = q ∙ ap (λ (l : List ℕ). over-at l n values) (ap₂ take count (r .valueBytes) ∙ added-values (reading line) (reading-sized line));
+        flagRoom = ap length p ∙ over-at-length (take 64 f) n flags (omega (arith, f-long));
+        valueRoom = ap length q ∙ over-at-length (take 64 v) n values (omega (arith, v-long));
+        flagBytes =
+            ap (take (n + k)) p ∙ behind-over (take 64 f) flags n k (omega arith) (omega (arith, f-long, few))
+            ∙ ap (λ (l : List ℕ). take n flags ++ l) (take-take k 64 f few ∙ ap₂ take count (r .flagBytes) ∙ added (reading line) (reading-sized line));
+        valueBytes =
+            ap (take (n + k)) q ∙ behind-over (take 64 v) values n k (omega arith) (omega (arith, v-long, few))
+            ∙ ap (λ (l : List ℕ). take n values ++ l) (take-take k 64 v few ∙ ap₂ take count (r .valueBytes) ∙ added-values (reading line) (reading-sized line));
       }
+    where
+      count : k ≡ countIn (lineOf (reading line))
+      count = e ∙ ap countIn (r .result)
+
+      few : k ≤ 64
+      few = omega (arith, e, said-most line f₀ v₀ said f v r)
+
+      f-long : length (take 64 f) ≡ 64
+      f-long = length-take-le 64 f (omega (arith, flags-lent line f₀ v₀ said f v r f-size))
+
+      v-long : length (take 64 v) ≡ 64
+      v-long = length-take-le 64 v (omega (arith, values-lent line f₀ v₀ said f v r v-size))
 
 -- ---- a sweep that takes two traces end to end
 
@@ -258,8 +290,8 @@ module _ (input : List ℕ) (from : ℕ) (flags₀ values₀ : List ℕ) where
       alike : length (samplesIn read-here .flags) ≡ length (samplesIn read-here .values)
       alike = sizes read-here (reading-sized (part input i to)) .1
 
-      nothing : (l b : List ℕ) → length l ≡ 0 → over-at l n b ≡ b
-      nothing [] b e = over-at-nil n b
+      nothing : (l b : List ℕ) → length l ≡ 0 → b ++ l ≡ b
+      nothing [] b e = append-nil b
       nothing (x ∷ l) b e = absurd (omega (arith, e))
 
       pub so-far-few : k ≤ 64
@@ -268,24 +300,31 @@ module _ (input : List ℕ) (from : ℕ) (flags₀ values₀ : List ℕ) where
       -- a line that says something else adds nothing
       pub so-far-same : k ≡ 0 → SoFar input from flags₀ values₀ flags′ values′ i n
       so-far-same e =
-          subst (λ (f : List ℕ). SoFar input from flags₀ values₀ f values′ i n) (sym (p .flagBytes ∙ nothing (samplesIn read-here .flags) flags (omega (arith, e, p .count))))
-          (subst (λ (v : List ℕ). SoFar input from flags₀ values₀ flags v i n) (sym (p .valueBytes ∙ nothing (samplesIn read-here .values) values (omega (arith, e, p .count, alike)))) h)
-
-      pub so-far-next : 4096 ≤ length flags₀ → 4096 ≤ length values₀ → n ≤ 4032 → LineEnd input i to → (k ≡ 0 → ⊥) → SoFar input from flags₀ values₀ flags′ values′ to (n + k)
-      so-far-next a b s line d =
           record {
-            most = omega (arith, short, p .count);
-            flag-room = ap length (p .flagBytes) ∙ over-at-length (samplesIn read-here .flags) n flags (omega (arith, short, h .flag-room)) ∙ h .flag-room;
-            value-room = ap length (p .valueBytes) ∙ over-at-length (samplesIn read-here .values) n values (omega (arith, short, alike, h .value-room)) ∙ h .value-room;
-            all = subst (Gathered input from to) (sym joined)
-                (line-more input from i to (pieceOf (take n flags) (take n values)) (h .all) line read-here refl (reading-sized (part input i to)) (omega (arith, p .count, d)));
+            most = h .most;
+            flag-room = p .flagRoom ∙ h .flag-room;
+            value-room = p .valueRoom ∙ h .value-room;
+            all = subst (Gathered input from i) (sym (ap₂ pieceOf flags-same values-same)) (h .all);
           }
         where
-          joined : pieceOf (take (n + k) flags′) (take (n + k) values′) ≡ pieceOf (take n flags) (take n values) ⧺ samplesIn read-here
-          joined =
-              ap₂ pieceOf
-              (ap (take (n + k)) (p .flagBytes) ∙ taken-over (samplesIn read-here .flags) flags n (n + k) (omega (arith, h .flag-room)) (omega (arith, p .count)))
-              (ap (take (n + k)) (p .valueBytes) ∙ taken-over (samplesIn read-here .values) values n (n + k) (omega (arith, h .value-room)) (omega (arith, p .count, alike)))
+          flags-same : take n flags′ ≡ take n flags
+          flags-same =
+              ap (λ (m : ℕ). take m flags′) {x = n} {y = n + k} (omega (arith, e)) ∙ p .flagBytes ∙ nothing (samplesIn read-here .flags) (take n flags) (omega (arith, e, p .count))
+
+          values-same : take n values′ ≡ take n values
+          values-same =
+              ap (λ (m : ℕ). take m values′) {x = n} {y = n + k} (omega (arith, e)) ∙ p .valueBytes
+              ∙ nothing (samplesIn read-here .values) (take n values) (omega (arith, e, p .count, alike))
+
+      pub so-far-next : n ≤ 4032 → LineEnd input i to → (k ≡ 0 → ⊥) → SoFar input from flags₀ values₀ flags′ values′ to (n + k)
+      so-far-next s line d =
+          record {
+            most = omega (arith, short, p .count);
+            flag-room = p .flagRoom ∙ h .flag-room;
+            value-room = p .valueRoom ∙ h .value-room;
+            all = subst (Gathered input from to) (sym (ap₂ pieceOf (p .flagBytes) (p .valueBytes)))
+                (line-more input from i to (pieceOf (take n flags) (take n values)) (h .all) line read-here refl (reading-sized (part input i to)) (omega (arith, p .count, d)));
+          }
 
 -- ---- the piece
 

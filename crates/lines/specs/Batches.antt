@@ -1,10 +1,11 @@
 -- Lines of samples that are taken as one piece.
 use Prim.Native.Nat.{ℕ, _+_, _≤_, _<_}
-use mathlib.Core.Bool.{Bool, true, false}
-use mathlib.Core.List.{List, [], _∷_, _++_}
+use mathlib.Core.Bool.{Bool, true, false, _&&_}
+use mathlib.Core.List.{List, [], _++_}
 use mathlib.Core.Path.{_≡_}
 use mathlib.Core.Logic.{_⊎_}
-use lib.ListN.{length, take, drop}
+use lib.Dec.{leb, eqb}
+use lib.ListN.{length, getD, take, drop}
 use Rattle.rules.specs.Lists.{any, All}
 use Rattle.rules.specs.Samples.{Trace, bad, sweepLimit}
 use Rattle.rules.specs.Buffers.{over-at}
@@ -23,6 +24,10 @@ use Rattle.lines.specs.Post.{pieceOf, Scans}
 
 -- ---- the samples of lines
 
+-- a line with samples begins with 02
+abbrev pub beginsSamples : List ℕ → ℕ → Bool
+beginsSamples input from = leb (from + 2) (length input) && (eqb (getD input from 0) 48 && eqb (getD input (from + 1) 0) 50)
+
 -- what a line adds: its samples, and nothing where it says something else
 abbrev pub samplesIn : Reading → Trace
 samplesIn (opening mode azimuth) = pieceOf [] []
@@ -32,8 +37,10 @@ samplesIn (unread k) = pieceOf [] []
 
 pub record AddPost (line : List ℕ) (n : ℕ) (flags values : List ℕ) (r : ℕ) (flags′ values′ : List ℕ) : Type 0 where
   pub count : r ≡ length (samplesIn (reading line) .flags)
-  pub flagBytes : flags′ ≡ over-at (samplesIn (reading line) .flags) n flags
-  pub valueBytes : values′ ≡ over-at (samplesIn (reading line) .values) n values
+  pub flagRoom : length flags′ ≡ length flags
+  pub valueRoom : length values′ ≡ length values
+  pub flagBytes : take (n + r) flags′ ≡ take n flags ++ samplesIn (reading line) .flags
+  pub valueBytes : take (n + r) values′ ≡ take n values ++ samplesIn (reading line) .values
 
 -- a sweep that is open, stays within its limit with T, and finds no bad flag byte in it
 pub record Takes (σ : Sweep) (T : Trace) : Type 0 where

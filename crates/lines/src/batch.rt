@@ -5,7 +5,7 @@ ghost use lib.Dec.{leb};
 ghost use lib.ListN.{length, take};
 ghost use Rattle.rules.specs.Buffers.{over-at};
 ghost use Rattle.lines.specs.Post.{countIn, pieceOf};
-ghost use Rattle.lines.specs.Batches.{AddPost, GatherPost, TakeAllPost, BatchPost};
+ghost use Rattle.lines.specs.Batches.{beginsSamples, AddPost, GatherPost, TakeAllPost, BatchPost};
 use super::carry::least;
 use super::ends::End;
 use super::ends::line_end;
@@ -30,13 +30,13 @@ pub struct Batched {
     pub at: usize,
 }
 
-// The first k bytes, from place n of a buffer on.
-fn append(bytes: &[u8], k: usize, all: &mut [u8], n: usize)
-    requires { ⌜ (k ≤ length (now bytes)) × (n + k ≤ length (now all)) ⌝ }
-    ensures { λ _. ⌜ now (all .exit) ≡ over-at (take k (now (bytes .entry))) n (now (all .entry)) ⌝ }
+// 64 bytes, from place n of a buffer on.
+fn append(bytes: &[u8], all: &mut [u8], n: usize)
+    requires { ⌜ (64 ≤ length (now bytes)) × (n + 64 ≤ length (now all)) ⌝ }
+    ensures { λ _. ⌜ now (all .exit) ≡ over-at (take 64 (now (bytes .entry))) n (now (all .entry)) ⌝ }
 {
     let mut i: usize = 0;
-    while i < k {
+    while i < 64 {
         all[n + i] = bytes[i];
         i += 1;
     }
@@ -55,7 +55,8 @@ fn count_in(line: Line) -> usize
     }
 }
 
-// The samples of a line, from place n of the two buffers on. Answers how many: none where the line says something else.
+// The samples of a line, from place n of the two buffers on; what stands behind them is of no use. Answers how many: none where the line says
+// something else.
 fn add_samples(line: &[u8], flags: &mut [u8], values: &mut [u8], n: usize) -> usize
     requires { ⌜ (n + 64 ≤ length (now flags)) × (n + 64 ≤ length (now values)) ⌝ }
     ensures { λ r. ⌜ AddPost (now (line .entry)) n (now (flags .entry)) (now (values .entry)) r (now (flags .exit)) (now (values .exit)) ⌝ }
@@ -64,8 +65,8 @@ fn add_samples(line: &[u8], flags: &mut [u8], values: &mut [u8], n: usize) -> us
     let mut v = [0u8; 64];
     let said = read(line, &mut f, &mut v);
     let k = count_in(said);
-    append(&f, k, flags, n);
-    append(&v, k, values, n);
+    append(&f, flags, n);
+    append(&v, values, n);
     k
 }
 
@@ -137,11 +138,32 @@ fn spacious(out: &[u8], at: usize) -> bool
     3120 <= room - at
 }
 
+// Whether the line at a place begins as samples do, with 02; if not, a batch is not worth a try.
+fn may_say_samples(input: &[u8], from: usize) -> bool
+    ensures { λ r. ⌜ r ≡ beginsSamples (now (input .entry)) from ⌝ }
+{
+    let n = input.len();
+    if n < from {
+        return false;
+    }
+    if n - from < 2 {
+        return false;
+    }
+    (input[from] == 48) & (input[from + 1] == 50)
+}
+
 // Carries out the lines of samples from a place on; where they cannot be taken in one piece, nothing happens.
 pub fn batch(p: Processor, input: &[u8], from: usize, out: &mut [u8], at: usize) -> Batched
     ensures { λ r. ⌜ BatchPost p (now (input .entry)) from at (now (out .entry)) r (now (out .exit)) ⌝ }
 {
     if !spacious(out, at) {
+        return Batched {
+            processor: p,
+            from,
+            at,
+        };
+    }
+    if !may_say_samples(input, from) {
         return Batched {
             processor: p,
             from,

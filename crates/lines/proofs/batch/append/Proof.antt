@@ -8,14 +8,14 @@ use Rattle.lines.proofs.batch.append.Reads as reads
 use Rattle.lines.proofs.batch.append.Lts as lts
 
 abbrev Inv-loop : tie.InvT-loop
-Inv-loop bytes k all₀ n i₀ all i = Putting (firstOnes bytes) k n all₀ all i
+Inv-loop bytes all₀ n i₀ all i = Putting (firstOnes bytes) 64 n all₀ all i
 
 abbrev μ-loop : tie.MeasureT-loop
-μ-loop bytes k all₀ n i₀ all i = k - i
+μ-loop bytes all₀ n i₀ all i = 64 - i
 
 -- src/batch.rt:39:5
 loop-holds : tie.Need-loop-holds Inv-loop μ-loop
-loop-holds c = append-start (c .args .bytes .now) (c .args .k) (c .pre .0) (c .args .n) (c .args .all .now) (c .pre .1)
+loop-holds c = append-start (c .args .bytes .now) 64 (c .pre .0) (c .args .n) (c .args .all .now) (c .pre .1)
 
 -- src/batch.rt:40:22
 shared-slice-read-all : tie.Need-shared-slice-read-all Inv-loop μ-loop
@@ -39,7 +39,7 @@ loop-less c = omega arith
 
 -- src/batch.rt:39:5
 loop-again : tie.Need-loop-again Inv-loop μ-loop
-loop-again c = append-next (c .before .before .before .args .bytes .now) (c .before .before .before .args .k) (c .before .before .before .pre .0) (c .before .before .before .args .n) (c .before .before .before .args .all .now) (c .before .before .before .pre .1) (c .before .before .loop .all) (c .before .before .loop .i) (omega arith) (c .before .before .loop .inv)
+loop-again c = append-next (c .before .before .before .args .bytes .now) 64 (c .before .before .before .pre .0) (c .before .before .before .args .n) (c .before .before .before .args .all .now) (c .before .before .before .pre .1) (c .before .before .loop .all) (c .before .before .loop .i) (omega arith) (c .before .before .loop .inv)
 
 -- src/batch.rt:34:1
 same-length : tie.Need-same-length Inv-loop μ-loop
@@ -47,7 +47,7 @@ same-length c = c .before .loop .inv .size
 
 -- src/batch.rt:34:1
 returns : tie.Need-returns Inv-loop μ-loop
-returns c = append-end (c .before .before .args .bytes .now) (c .before .before .args .k) (c .before .before .pre .0) (c .before .before .args .n) (c .before .before .args .all .now) (c .before .before .pre .1) (c .before .loop .all) (c .before .loop .i) (omega arith) (c .before .loop .inv)
+returns c = append-end (c .before .before .args .bytes .now) 64 (c .before .before .pre .0) (c .before .before .args .n) (c .before .before .args .all .now) (c .before .before .pre .1) (c .before .loop .all) (c .before .loop .i) (omega arith) (c .before .loop .inv)
 
 pub append-spec : {M : Type 1} → statement M
 append-spec =
