@@ -1,15 +1,13 @@
 -- Digits, one by one and in pairs.
-use Prim.Native.Nat.{ℕ, zero, suc, _+_, _-_, _*_, _≤_, _<_}
+use Prim.Native.Nat.{ℕ, zero, suc, _+_, _-_, _*_, _/_, _%_, _≤_, _<_}
 use native.Mathlib.Omega.{arith}
-use mathlib.Core.Path.{_≡_, refl, sym, ap, _∙_}
-use mathlib.Core.Bool.{Bool, true, false, cond, _&&_}
+use mathlib.Core.Path.{_≡_, refl, sym, ap, ap₂, _∙_}
+use mathlib.Core.Bool.{Bool, true, false, cond, _&&_, _||_}
 use mathlib.Core.List.{List, [], _∷_, _++_}
 use lib.Dec.{leb, ltb}
 use lib.ListN.{length, getD, take}
-use borrow.Author.Tests.{leb-true, leb-false, ltb-true, ltb-false, lt-ltb, le-ltb}
-use lib.ListN.{drop}
-use lib.Seq.{drop-cons}
-use Rattle.rules.proofs.Truth.{and-left}
+use borrow.Author.Tests.{leb-true, lt-ltb, le-ltb}
+use Rattle.rules.proofs.Truth.{and-left, and-right}
 use Rattle.frames.specs.Frames.{digit, isDigit, areDigits, Digits}
 
 abbrev low : ℕ → Bool
@@ -18,51 +16,81 @@ low c = leb 48 c && leb c 57
 abbrev high : ℕ → Bool
 high c = leb 97 c && leb c 102
 
-pub digit-low : (c : ℕ) → low c ≡ true → c - 48 ≡ digit c
+digit-low : (c : ℕ) → low c ≡ true → c - 48 ≡ digit c
 unfolding digit
 digit-low c h = sym (ap (λ b. cond b (c - 48) (cond (high c) (c - 87) 16)) h)
 
-pub digit-high : (c : ℕ) → low c ≡ false → high c ≡ true → c - 87 ≡ digit c
+digit-high : (c : ℕ) → low c ≡ false → high c ≡ true → c - 87 ≡ digit c
 unfolding digit
 digit-high c l h = sym (ap (λ b. cond b (c - 48) (cond (high c) (c - 87) 16)) l ∙ ap (λ b. cond b (c - 87) 16) h)
 
-pub digit-none : (c : ℕ) → low c ≡ false → high c ≡ false → 16 ≡ digit c
+digit-none : (c : ℕ) → low c ≡ false → high c ≡ false → 16 ≡ digit c
 unfolding digit
 digit-none c l h = sym (ap (λ b. cond b (c - 48) (cond (high c) (c - 87) 16)) l ∙ ap (λ b. cond b (c - 87) 16) h)
 
-pub low-least : (c : ℕ) → low c ≡ true → 48 ≤ c
+low-least : (c : ℕ) → low c ≡ true → 48 ≤ c
 low-least c h = leb-true 48 c (and-left (leb 48 c) (leb c 57) h)
 
-pub high-least : (c : ℕ) → high c ≡ true → 97 ≤ c
+high-least : (c : ℕ) → high c ≡ true → 97 ≤ c
 high-least c h = leb-true 97 c (and-left (leb 97 c) (leb c 102) h)
+
+low-most : (c : ℕ) → low c ≡ true → c ≤ 57
+low-most c h = leb-true c 57 (and-right (leb 48 c) (leb c 57) h)
+
+high-most : (c : ℕ) → high c ≡ true → c ≤ 102
+high-most c h = leb-true c 102 (and-right (leb 97 c) (leb c 102) h)
+
+-- a character is a digit if it is one of 0 to 9 or one of a to f
+pub digit-by-tests : (c : ℕ) → (low c || high c) ≡ isDigit c
+digit-by-tests c = go (low c) (high c) refl refl
+  where
+    go : (a b : Bool) → low c ≡ a → high c ≡ b → (a || b) ≡ isDigit c
+    go true b l h = sym (lt-ltb (digit c) 16 (omega (arith, digit-low c l, low-most c l)))
+    go false true l h = sym (lt-ltb (digit c) 16 (omega (arith, digit-high c l h, high-most c h)))
+    go false false l h = sym (le-ltb (digit c) 16 (omega (arith, digit-none c l h)))
+
+-- the value of a digit: its low four bits, and nine more for a letter
+pub digit-by-bits : (c : ℕ) → digit c < 16 → c % 16 + 9 * (c / 64) ≡ digit c
+digit-by-bits c d = go (low c) (high c) refl refl
+  where
+    go : (a b : Bool) → low c ≡ a → high c ≡ b → c % 16 + 9 * (c / 64) ≡ digit c
+    go true b l h = omega (arith, digit-low c l, low-least c l, low-most c l)
+    go false true l h = omega (arith, digit-high c l h, high-least c h, high-most c h)
+    go false false l h = absurd (omega (arith, d, digit-none c l h))
 
 -- ---- many
 
--- the bytes up to place i are digits
-pub record Scanned (l : List ℕ) (n i : ℕ) : Type 0 where
+-- the bytes up to place i are looked at
+pub record Seen (l : List ℕ) (n i : ℕ) (all : Bool) : Type 0 where
   pub most : i ≤ n
-  pub rest : areDigits (take n l) ≡ areDigits (take (n - i) (drop i l))
+  pub so-far : all ≡ areDigits (take i l)
 
-pub scan-start : (l : List ℕ) (n : ℕ) → Scanned l n 0
-scan-start l n = record { most = omega arith; rest = ap (λ (k : ℕ). areDigits (take k l)) {x = n} {y = n - 0} (omega arith) }
+pub seen-none : (l : List ℕ) (n : ℕ) → Seen l n 0 true
+seen-none l n = record { most = omega arith; so-far = refl }
 
--- the bytes from place i on begin with that at i
-from : (l : List ℕ) (n i : ℕ) → i < n → n ≤ length l → take (n - i) (drop i l) ≡ getD l i 0 ∷ take (n - (i + 1)) (drop (i + 1) l)
-from l n i h m =
-    ap (λ (x : List ℕ). take (n - i) x) (drop-cons l i 0 (omega arith))
-    ∙ ap (λ (k : ℕ). take k (getD l i 0 ∷ drop (suc i) l)) {x = n - i} {y = suc (n - (i + 1))} (omega arith)
-    ∙ ap (λ (k : ℕ). getD l i 0 ∷ take (n - (i + 1)) (drop k l)) {x = suc i} {y = i + 1} (omega arith)
+with-true : (x : Bool) → (x && true) ≡ x
+with-true true = refl
+with-true false = refl
 
-pub scan-next : (l : List ℕ) (n i : ℕ) → i < n → n ≤ length l → digit (getD l i 0) ≤ 15 → Scanned l n i → Scanned l n (i + 1)
-scan-next l n i h m d s =
+both-and : (x y z : Bool) → (x && (y && z)) ≡ ((x && y) && z)
+both-and true y z = refl
+both-and false y z = refl
+
+one-more : (l : List ℕ) (i : ℕ) → i < length l → areDigits (take (suc i) l) ≡ (areDigits (take i l) && isDigit (getD l i 0))
+one-more [] i h = absurd (omega arith)
+one-more (c ∷ l) zero h = with-true (isDigit c)
+one-more (c ∷ l) (suc i) h =
+    ap (λ b. isDigit c && b) (one-more l i (omega arith)) ∙ both-and (isDigit c) (areDigits (take i l)) (isDigit (getD l i 0))
+
+pub seen-next : (l : List ℕ) (n i : ℕ) (all r : Bool) → i < n → n ≤ length l → r ≡ isDigit (getD l i 0) → Seen l n i all → Seen l n (i + 1) (all && r)
+seen-next l n i all r h m e s =
     record {
       most = omega arith;
-      rest = s .rest ∙ ap areDigits (from l n i h m) ∙ ap (λ b. b && areDigits (take (n - (i + 1)) (drop (i + 1) l))) (lt-ltb (digit (getD l i 0)) 16 (omega (arith, d)));
+      so-far =
+          ap₂ (λ (x y : Bool). x && y) (s .so-far) e
+          ∙ sym (one-more l i (omega arith))
+          ∙ ap (λ (k : ℕ). areDigits (take k l)) {x = suc i} {y = i + 1} (omega arith);
     }
 
-pub scan-bad : (l : List ℕ) (n i : ℕ) → i < n → n ≤ length l → 15 < digit (getD l i 0) → Scanned l n i → false ≡ areDigits (take n l)
-scan-bad l n i h m d s =
-    sym (s .rest ∙ ap areDigits (from l n i h m) ∙ ap (λ b. b && areDigits (take (n - (i + 1)) (drop (i + 1) l))) (le-ltb (digit (getD l i 0)) 16 (omega (arith, d))))
-
-pub scan-end : (l : List ℕ) (n i : ℕ) → n ≤ i → Scanned l n i → true ≡ areDigits (take n l)
-scan-end l n i h s = sym (s .rest ∙ ap (λ (k : ℕ). areDigits (take k (drop i l))) {x = n - i} {y = 0} (omega (arith, h)))
+pub seen-all : (l : List ℕ) (n i : ℕ) (all : Bool) → n ≤ i → Seen l n i all → all ≡ areDigits (take n l)
+seen-all l n i all h s = s .so-far ∙ ap (λ (k : ℕ). areDigits (take k l)) {x = i} {y = n} (omega (arith, h, s .most))

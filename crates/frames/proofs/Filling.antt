@@ -1,19 +1,19 @@
 -- Samples of a line land at the start of two buffers, one pair after the other.
-use Prim.Native.Nat.{ℕ, zero, suc, _+_, _-_, _*_, _≤_, _<_}
+use Prim.Native.Nat.{ℕ, zero, suc, _+_, _-_, _*_, _/_, _%_, _≤_, _<_}
 use native.Mathlib.Omega.{arith}
-use mathlib.Core.Path.{_≡_, refl, sym, ap, _∙_}
+use mathlib.Core.Path.{_≡_, refl, sym, ap, ap₂, _∙_}
 use mathlib.Core.Logic.{_⊎_, inl, inr}
 use mathlib.Core.Bool.{Bool, true, false}
 use mathlib.Core.List.{List, [], _∷_, _++_}
 use lib.Dec.{ltb}
-use lib.ListN.{length, getD, drop, set, length-set, length-append, length-drop, List·getD-append}
-use lib.Seq.{getD-set-same, getD-set-other, getD-drop, getD-append-add, ext-getD}
+use lib.ListN.{length, getD, take, drop, set, length-set, length-append, length-drop, List·getD-append}
+use lib.Seq.{length-take-le, getD-take, getD-set-same, getD-set-other, getD-drop, getD-append-add, ext-getD}
 use borrow.Author.Tests.{ltb-true, ltb-false}
 use Rattle.rules.proofs.Truth.{same-or}
-use Rattle.frames.specs.Frames.{flagsIn, valuesIn}
+use Rattle.frames.specs.Frames.{digit, flagsIn, valuesIn}
 use Rattle.rules.specs.Buffers.{over}
-use Rattle.frames.specs.Post.{behind, AllDigits, FillPost}
-use Rattle.frames.proofs.Pairs.{byte, behind-length, behind-at, flags-at, values-at, flags-length, values-length}
+use Rattle.frames.specs.Post.{behind, AllDigits, FillPost, digitValues, FourDigits, TwoBytes}
+use Rattle.frames.proofs.Pairs.{byte, digit-below, behind-length, behind-at, flags-at, values-at, flags-length, values-length}
 
 -- ---- a buffer whose first j bytes are those of F
 
@@ -55,6 +55,140 @@ put-end F b₀ b j e l h =
         ∙ sym (getD-drop (length F) b₀ (k - length F) 0)
         ∙ sym (getD-append-add F (drop (length F) b₀) (k - length F) 0)
         ∙ ap (λ (i : ℕ). getD (over F b₀) i 0) {x = length F + (k - length F)} {y = k} (omega (arith, q))
+
+-- ---- the values of a line's digits
+
+values-count : (l : List ℕ) → length (digitValues l) ≡ length l
+values-count [] = refl
+values-count (c ∷ l) = ap suc (values-count l)
+
+value-at : (l : List ℕ) (i : ℕ) → i < length l → getD (digitValues l) i 0 ≡ digit (getD l i 0)
+value-at [] i h = absurd (omega arith)
+value-at (c ∷ l) zero h = refl
+value-at (c ∷ l) (suc i) h = value-at l i (omega arith)
+
+-- of the n digits behind the kind
+abbrev pub behindValues : List ℕ → ℕ → List ℕ
+behindValues line n = digitValues (take n (drop 2 line))
+
+module _ (line : List ℕ) (n : ℕ) (room : n + 2 ≤ length line) where
+  digits-size : length (take n (drop 2 line)) ≡ n
+  digits-size = length-take-le n (drop 2 line) (omega (arith, length-drop 2 line))
+
+  values-size : length (behindValues line n) ≡ n
+  values-size = values-count (take n (drop 2 line)) ∙ digits-size
+
+  value-there : (i : ℕ) → i < n → getD (behindValues line n) i 0 ≡ digit (getD line (i + 2) 0)
+  value-there i h =
+      value-at (take n (drop 2 line)) i (omega (arith, digits-size))
+      ∙ ap digit (getD-take n (drop 2 line) i 0 h ∙ getD-drop 2 line i 0 ∙ ap (λ (k : ℕ). getD line k 0) {x = 2 + i} {y = i + 2} (omega arith))
+
+pub record Valued (line : List ℕ) (n : ℕ) (d₀ d : List ℕ) (i : ℕ) : Type 0 where
+  pub most : i ≤ n
+  pub put : Put (behindValues line n) d₀ d i
+
+pub valued-start : (line : List ℕ) (n : ℕ) (d : List ℕ) → Valued line n d d 0
+valued-start line n d = record { most = omega arith; put = put-start (behindValues line n) d }
+
+pub valued-digit : (line : List ℕ) (n i : ℕ) → AllDigits line (n + 2) → i < n → digit (getD line (i + 2) 0) < 16
+valued-digit line n i a h = digit-below line (n + 2) (i + 2) a (omega arith)
+
+pub valued-next : (line : List ℕ) (n : ℕ) (d₀ d : List ℕ) (i x : ℕ) → n + 2 ≤ length line → n ≤ length d₀ → i < n → x ≡ digit (getD line (i + 2) 0)
+    → Valued line n d₀ d i → Valued line n d₀ (set d i x) (i + 1)
+valued-next line n d₀ d i x room m h e s =
+    record { most = omega arith; put = put-next (behindValues line n) d₀ d i x (omega arith) (e ∙ sym (value-there line n room i h)) (s .put) }
+
+pub valued-end : (line : List ℕ) (n : ℕ) (d₀ d : List ℕ) (i : ℕ) → n + 2 ≤ length line → n ≤ length d₀ → n ≤ i → Valued line n d₀ d i → d ≡ over (behindValues line n) d₀
+valued-end line n d₀ d i room m h s =
+    put-end (behindValues line n) d₀ d i (omega (arith, values-size line n room, h, s .most)) (omega (arith, m, s .most)) (s .put)
+
+-- ---- four digits as two bytes
+
+low-byte : (n a b : ℕ) → a < 256 → n ≡ a + 256 * b → n % 256 ≡ a
+low-byte n a b h e = omega arith
+
+above-byte : (n a b : ℕ) → a < 256 → n ≡ a + 256 * b → n / 256 ≡ b
+above-byte n a b h e = omega arith
+
+above-two : (n a b : ℕ) → a < 65536 → n ≡ a + 65536 * b → n / 65536 ≡ b
+above-two n a b h e = omega arith
+
+-- sixteen times a word of four digits, and the word a byte lower: each byte of the sum is sixteen times a digit and the next digit
+joined : (a b c d w u x : ℕ) → w ≡ (a + 256 * b) + 65536 * (c + 256 * d) → u ≡ b + 256 * (c + 256 * d) → x ≡ 16 * w + u
+    → x ≡ (16 * a + b) + 256 * ((16 * b + c) + 256 * ((16 * c + d) + 256 * (16 * d)))
+joined a b c d w u x e f g = omega arith
+
+module _ (a b c d : ℕ) (p : a < 16) (q : b < 16) (r : c < 16) (s : d < 16) (w : ℕ) (e : w ≡ (a + 256 * b) + 65536 * (c + 256 * d)) where
+  sum : 16 * w + w / 256 ≡ (16 * a + b) + 256 * ((16 * b + c) + 256 * ((16 * c + d) + 256 * (16 * d)))
+  sum = joined a b c d w (w / 256) (16 * w + w / 256) e (above-byte w a (b + 256 * (c + 256 * d)) (omega (arith, p)) (omega (arith, e))) refl
+
+  two-low : (16 * w + w / 256) % 256 ≡ 16 * a + b
+  two-low = low-byte (16 * w + w / 256) (16 * a + b) ((16 * b + c) + 256 * ((16 * c + d) + 256 * (16 * d))) (omega (arith, p, q)) sum
+
+  two-high : (16 * w + w / 256) / 65536 % 256 ≡ 16 * c + d
+  two-high =
+      ap (λ (n : ℕ). n % 256) (above-two (16 * w + w / 256) ((16 * a + b) + 256 * (16 * b + c)) ((16 * c + d) + 256 * (16 * d)) (omega (arith, p, q, r)) (sum ∙ regroup))
+      ∙ low-byte ((16 * c + d) + 256 * (16 * d)) (16 * c + d) (16 * d) (omega (arith, r, s)) refl
+    where
+      regroup : (16 * a + b) + 256 * ((16 * b + c) + 256 * ((16 * c + d) + 256 * (16 * d))) ≡ ((16 * a + b) + 256 * (16 * b + c)) + 65536 * ((16 * c + d) + 256 * (16 * d))
+      regroup = omega arith
+
+pub two-in-word : (l : List ℕ) (i w₀ w₁ w₂ w₃ : ℕ) → FourDigits l i → w₀ ≡ getD l i 0 → w₁ ≡ getD l (i + 1) 0 → w₂ ≡ getD l (i + 2) 0 → w₃ ≡ getD l (i + 3) 0
+    → TwoBytes l i (16 * ((w₀ + 256 * w₁) + 65536 * (w₂ + 256 * w₃)) + ((w₀ + 256 * w₁) + 65536 * (w₂ + 256 * w₃)) / 256)
+two-in-word l i w₀ w₁ w₂ w₃ h a b c d =
+    record {
+      low = two-low w₀ w₁ w₂ w₃ p q r s w refl ∙ ap₂ (λ (x y : ℕ). 16 * x + y) a b;
+      high = two-high w₀ w₁ w₂ w₃ p q r s w refl ∙ ap₂ (λ (x y : ℕ). 16 * x + y) c d;
+    }
+  where
+    w : ℕ
+    w = (w₀ + 256 * w₁) + 65536 * (w₂ + 256 * w₃)
+
+    p : w₀ < 16
+    p = omega (arith, a, h .first)
+
+    q : w₁ < 16
+    q = omega (arith, b, h .second)
+
+    r : w₂ < 16
+    r = omega (arith, c, h .third)
+
+    s : w₃ < 16
+    s = omega (arith, d, h .fourth)
+
+-- ---- the samples, from the values
+
+module _ (line d d₀ : List ℕ) (n : ℕ) (all : AllDigits line (4 * n + 2)) (e : d ≡ over (behindValues line (4 * n)) d₀) where
+  value-held : (i : ℕ) → i < 4 * n → getD d i 0 ≡ digit (getD line (i + 2) 0)
+  unfolding over
+  value-held i h =
+      ap (λ (l : List ℕ). getD l i 0) e
+      ∙ List·getD-append (behindValues line (4 * n)) (drop (length (behindValues line (4 * n))) d₀) 0 i (omega (arith, values-size line (4 * n) (all .room)))
+      ∙ value-there line (4 * n) (all .room) i h
+
+  small : (i : ℕ) → i < 4 * n → getD d i 0 < 16
+  small i h = omega (arith, value-held i h, valued-digit line (4 * n) i all h)
+
+  pub four-digits : (j : ℕ) → 4 * n ≤ length d → j < n → FourDigits d (4 * j)
+  four-digits j m h =
+      record {
+        room = omega (arith, m, h);
+        first = small (4 * j) (omega arith);
+        second = small (4 * j + 1) (omega arith);
+        third = small (4 * j + 2) (omega arith);
+        fourth = small (4 * j + 3) (omega arith);
+      }
+
+  held-at : (i k : ℕ) → i < 4 * n → k ≡ i + 2 → getD d i 0 ≡ digit (getD line k 0)
+  held-at i k h z = value-held i h ∙ ap (λ (m : ℕ). digit (getD line m 0)) (sym z)
+
+  pub low-is-flag : (j x : ℕ) → j < n → TwoBytes d (4 * j) x → x % 256 ≡ byte line (4 * j + 2)
+  low-is-flag j x h t =
+      t .low ∙ ap₂ (λ (x y : ℕ). 16 * x + y) (held-at (4 * j) (4 * j + 2) (omega arith) (omega arith)) (held-at (4 * j + 1) (4 * j + 2 + 1) (omega arith) (omega arith))
+
+  pub high-is-value : (j x : ℕ) → j < n → TwoBytes d (4 * j) x → x / 65536 % 256 ≡ byte line (4 * j + 4)
+  high-is-value j x h t =
+      t .high ∙ ap₂ (λ (x y : ℕ). 16 * x + y) (held-at (4 * j + 2) (4 * j + 4) (omega arith) (omega arith)) (held-at (4 * j + 3) (4 * j + 4 + 1) (omega arith) (omega arith))
 
 -- ---- the two buffers of a line with n samples
 

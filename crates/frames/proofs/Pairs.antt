@@ -19,7 +19,7 @@ digits-at [] i h m = absurd (omega arith)
 digits-at (c ∷ l) zero h m = ltb-true (digit c) 16 (and-left (isDigit c) (areDigits l) h)
 digits-at (c ∷ l) (suc i) h m = digits-at l i (and-right (isDigit c) (areDigits l) h) (omega arith)
 
-digit-below : (l : List ℕ) (m i : ℕ) → AllDigits l m → i < m → digit (getD l i 0) < 16
+pub digit-below : (l : List ℕ) (m i : ℕ) → AllDigits l m → i < m → digit (getD l i 0) < 16
 digit-below l m i h p =
     omega (arith, digits-at (take m l) i (h .all) (omega (arith, length-take-le m l (h .room))), ap digit (getD-take m l i 0 p))
 

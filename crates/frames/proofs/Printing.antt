@@ -54,10 +54,10 @@ pub record Putting (F : ℕ → List ℕ) (n at : ℕ) (b₀ b : List ℕ) (i : 
   pub size : length b ≡ length b₀
   pub is : b ≡ over-at (F i) at b₀
 
-putting-start : (F : ℕ → List ℕ) (n at : ℕ) (b : List ℕ) → F 0 ≡ [] → Putting F n at b b 0
+pub putting-start : (F : ℕ → List ℕ) (n at : ℕ) (b : List ℕ) → F 0 ≡ [] → Putting F n at b b 0
 putting-start F n at b e = record { most = omega arith; size = refl; is = sym (over-at-nil at b) ∙ ap (λ (l : List ℕ). over-at l at b) (sym e) }
 
-putting-next : (F : ℕ → List ℕ) (n at : ℕ) (b₀ b b′ part : List ℕ) (i to : ℕ) → F (i + 1) ≡ F i ++ part → to ≡ at + length (F i) → to + length part ≤ length b₀ → i < n
+pub putting-next : (F : ℕ → List ℕ) (n at : ℕ) (b₀ b b′ part : List ℕ) (i to : ℕ) → F (i + 1) ≡ F i ++ part → to ≡ at + length (F i) → to + length part ≤ length b₀ → i < n
     → b′ ≡ over-at part to b → Putting F n at b₀ b i → Putting F n at b₀ b′ (i + 1)
 putting-next F n at b₀ b b′ part i to more e room l p h =
     record {

@@ -1,16 +1,16 @@
 -- What reading a line answers, and what it leaves in the two buffers for samples; what writing a line leaves in the output buffer.
-use Prim.Native.Nat.{ℕ, _+_, _-_, _*_, _≤_}
+use Prim.Native.Nat.{ℕ, _+_, _-_, _*_, _/_, _%_, _≤_, _<_}
 use mathlib.Core.Bool.{Bool, true, false}
-use mathlib.Core.List.{List}
+use mathlib.Core.List.{List, [], _∷_}
 use mathlib.Core.Path.{_≡_}
 use lib.Dec.{leb}
-use lib.ListN.{length, take, drop}
+use lib.ListN.{length, getD, take, drop}
 use Rattle.rules.specs.Samples.{Trace}
 use Rattle.rules.specs.Buffers.{over, over-at}
 use Rattle.frames.specs.declared.Line.{Line}
 use Rattle.frames.specs.declared.Line.the-variants.{Frame as Framed, Refused}
 use Rattle.frames.specs.declared.Frame.the-variants.{Open, Samples, Close}
-use Rattle.frames.specs.Frames.{Reading, opening, samples, closing, refused, reading, bytes, areDigits, flagsIn, valuesIn}
+use Rattle.frames.specs.Frames.{Reading, opening, samples, closing, refused, reading, digit, bytes, areDigits, flagsIn, valuesIn}
 
 -- document 01's values for each case
 abbrev pub lineOf : Reading → Line
@@ -49,6 +49,24 @@ pub record FillPost (line : List ℕ) (n : ℕ) (flags values flags′ values′
 pub record AllDigits (line : List ℕ) (m : ℕ) : Type 0 where
   pub room : m ≤ length line
   pub all : areDigits (take m line) ≡ true
+
+-- the value of each digit
+abbrev pub digitValues : List ℕ → List ℕ
+digitValues [] = []
+digitValues (c ∷ l) = digit c ∷ digitValues l
+
+-- four values of digits stand from place i on
+pub record FourDigits (d : List ℕ) (i : ℕ) : Type 0 where
+  pub room : i + 3 < length d
+  pub first : getD d i 0 < 16
+  pub second : getD d (i + 1) 0 < 16
+  pub third : getD d (i + 2) 0 < 16
+  pub fourth : getD d (i + 3) 0 < 16
+
+-- the two bytes of four digits in one word
+pub record TwoBytes (d : List ℕ) (i x : ℕ) : Type 0 where
+  pub low : x % 256 ≡ 16 * getD d i 0 + getD d (i + 1) 0
+  pub high : x / 65536 % 256 ≡ 16 * getD d (i + 2) 0 + getD d (i + 3) 0
 
 -- ---- writing
 

@@ -1,11 +1,14 @@
 // Frames, one a line: what a line says, or the number with which it is refused; and the lines that a survey prints.
+mod characters;
+mod samples;
 mod writing;
 
-ghost use Prim.Native.Nat.{_+_, _*_, _≤_, _<_};
 ghost use mathlib.Core.Path.{_≡_};
-ghost use lib.ListN.{length, getD, take};
-ghost use Rattle.frames.specs.Frames.{digit, areDigits, wellFormed, Digits};
-ghost use Rattle.frames.specs.Post.{AllDigits, FillPost, ReadPost};
+ghost use Rattle.frames.specs.Frames.{wellFormed};
+ghost use Rattle.frames.specs.Post.{ReadPost};
+use characters::are_digits;
+use characters::byte_at;
+use samples::fill;
 pub use writing::refusal_line;
 pub use writing::reply_lines;
 pub use writing::totals_bytes;
@@ -22,44 +25,6 @@ pub enum Frame {
 pub enum Line {
     Frame(Frame),
     Refused(u8),
-}
-
-// The value of a hexadecimal digit; 16 for another character.
-fn digit(c: u8) -> u8
-    ensures { λ r. ⌜ r ≡ digit c ⌝ }
-{
-    if (48 <= c) & (c <= 57) {
-        return c - 48;
-    }
-    if (97 <= c) & (c <= 102) {
-        return c - 87;
-    }
-    16
-}
-
-// Whether the first n bytes are digits.
-fn are_digits(line: &[u8], n: usize) -> bool
-    requires { ⌜ n ≤ length (now line) ⌝ }
-    ensures { λ r. ⌜ r ≡ areDigits (take n (now (line .entry))) ⌝ }
-{
-    let mut i: usize = 0;
-    while i < n {
-        if 15 < digit(line[i]) {
-            return false;
-        }
-        i += 1;
-    }
-    true
-}
-
-// The byte of the two digits at i.
-fn byte_at(line: &[u8], i: usize) -> u8
-    requires { ⌜ Digits (now line) i ⌝ }
-    ensures { λ r. ⌜ r ≡ 16 * digit (getD (now (line .entry)) i 0) + digit (getD (now (line .entry)) (i + 1) 0) ⌝ }
-{
-    let high = digit(line[i]);
-    let low = digit(line[i + 1]);
-    16 * high + low
 }
 
 // 9: empty, over 258 digits, odd, another character, or no final newline.
@@ -80,19 +45,6 @@ fn well_formed(line: &[u8]) -> bool
         return false;
     }
     are_digits(line, n - 1)
-}
-
-// The n samples of a line, into the two buffers.
-fn fill(line: &[u8], n: usize, flags: &mut [u8], values: &mut [u8])
-    requires { ⌜ (n ≤ length (now flags)) × (n ≤ length (now values)) × AllDigits (now line) (4 * n + 2) ⌝ }
-    ensures { λ _. ⌜ FillPost (now (line .entry)) n (now (flags .entry)) (now (values .entry)) (now (flags .exit)) (now (values .exit)) ⌝ }
-{
-    let mut j: usize = 0;
-    while j < n {
-        flags[j] = byte_at(line, 4 * j + 2);
-        values[j] = byte_at(line, 4 * j + 4);
-        j += 1;
-    }
 }
 
 // What a line says, its newline included. Samples land at the start of the two buffers; nothing else is written.

@@ -79,17 +79,17 @@ accepted-is (refused j) n x m e r = absurd (true≢false (ap isRefused (sym e �
 
 -- ---- lines written where there is room
 
-record Wrote (l : List ℕ) (at : ℕ) (b : List ℕ) (e : ℕ) (b′ : List ℕ) : Type 0 where
-  place : e ≡ at + length l
-  buffer : b′ ≡ over-at l at b
+pub record Wrote (l : List ℕ) (at : ℕ) (b : List ℕ) (e : ℕ) (b′ : List ℕ) : Type 0 where
+  pub place : e ≡ at + length l
+  pub buffer : b′ ≡ over-at l at b
 
-wrote : (l : List ℕ) (at : ℕ) (b : List ℕ) (e : ℕ) (b′ : List ℕ) → at + length l ≤ length b → WritePost l at b e b′ → Wrote l at b e b′
+pub wrote : (l : List ℕ) (at : ℕ) (b : List ℕ) (e : ℕ) (b′ : List ℕ) → at + length l ≤ length b → WritePost l at b e b′ → Wrote l at b e b′
 wrote l at b e b′ h w =
     let t = le-leb (at + length l) (length b) h in
     record { place = w .result ∙ ap (λ (x : Bool). placeBehind x l at) t; buffer = w .buffer ∙ ap (λ (x : Bool). bufferWith x l at b) t }
 
 -- in any case not past the end
-write-inside : (l : List ℕ) (at : ℕ) (b : List ℕ) (e : ℕ) (b′ : List ℕ) → at ≤ length b → WritePost l at b e b′ → e ≤ length b
+pub write-inside : (l : List ℕ) (at : ℕ) (b : List ℕ) (e : ℕ) (b′ : List ℕ) → at ≤ length b → WritePost l at b e b′ → e ≤ length b
 write-inside l at b e b′ h w = go (leb (at + length l) (length b)) refl
   where
     go : (t : Bool) → leb (at + length l) (length b) ≡ t → e ≤ length b
@@ -133,6 +133,71 @@ module _ (p : Processor) (at : ℕ) (b : List ℕ) where
         result = λ σ m. c .result σ m ∙ ap (λ (x : Outcome). steppedBy x p at) (sym (e σ m));
         output = λ σ m. c .output σ m ∙ ap (λ (x : Outcome). over-at (printed x) at b) (sym (e σ m));
       }
+
+  -- a refusal gives back the processor that went in
+  stop-same : (q : Processor) (k : ℕ) (r : Stepped) (b′ : List ℕ) → ((σ : Sweep) → Made σ p → q ≡ p) → CarryPost (λ σ. stops k) q at b r b′
+      → CarryPost (λ σ. stops k) p at b r b′
+  stop-same q k r b′ e c =
+      record {
+        inside = c .inside;
+        result = λ σ m. c .result σ (made σ m) ∙ ap (λ (x : Processor). steppedBy (stops k) x at) (e σ m);
+        output = λ σ m. c .output σ (made σ m);
+      }
+    where
+      made : (σ : Sweep) → Made σ p → Made σ q
+      made σ m = record { is = e σ m ∙ m .is; sound = m .sound }
+
+  -- ---- a piece, lent a buffer of so many bytes, enough for all its replies
+
+  module _ (P : Trace) (bytes most : ℕ) (few : (σ : Sweep) → length (freshOf σ P) ≤ most) (h₀ h : List ℕ) (lent : length h₀ ≡ bytes) (t : Taken) (post : TakePost p P h₀ t h) where
+    count-fresh : (σ : Sweep) → countOf σ P ≡ length (freshOf σ P)
+    count-fresh none = refl
+    count-fresh (running mode azimuth T) = refl
+
+    handed-fresh : (σ : Sweep) → handedOut σ P ≡ records (freshOf σ P)
+    unfolding records
+    handed-fresh none = refl
+    handed-fresh (running mode azimuth T) = refl
+
+    take-is : (σ : Sweep) → Made σ p → t ≡ takeAs (takeVerdict σ P bytes) σ P
+    take-is σ m = post .result σ m ∙ ap (λ (n : ℕ). takeAs (takeVerdict σ P n) σ P) lent
+
+    take-answer : (σ : Sweep) (v : Verdict) → takeAs v σ P .answer ≡ answered v (countOf σ P)
+    unfolding answered
+    take-answer σ accepted = refl
+    take-answer σ (refused k) = refl
+
+    answer-of : (σ : Sweep) → Made σ p → t .answer ≡ answered (takeVerdict σ P bytes) (countOf σ P)
+    answer-of σ m = ap (λ (x : Taken). x .answer) (take-is σ m) ∙ take-answer σ (takeVerdict σ P bytes)
+
+    -- it was refused
+    module _ (k : ℕ) (e : t .answer ≡ Refused k) (σ : Sweep) (m : Made σ p) where
+      pub turned-down : takeVerdict σ P bytes ≡ refused k
+      turned-down = refused-is (takeVerdict σ P bytes) (countOf σ P) (t .answer) k (answer-of σ m) e
+
+      pub given-back : t .processor ≡ p
+      given-back = ap (λ (x : Taken). x .processor) (take-is σ m) ∙ ap (λ (v : Verdict). takeAs v σ P .processor) turned-down ∙ sym (m .is)
+
+    -- it was accepted, and its replies were written
+    module _ (n : ℕ) (q : t .answer ≡ Accepted n) (σ : Sweep) (m : Made σ p) where
+      acc : Accepts (takeVerdict σ P bytes) (countOf σ P) n
+      acc = accepted-is (takeVerdict σ P bytes) (countOf σ P) (t .answer) n (answer-of σ m) q
+
+      pub carried-out : takeVerdict σ P bytes ≡ accepted
+      carried-out = acc .verdict
+
+      pub went-on : t .processor ≡ processorOf (longer σ P)
+      went-on = ap (λ (x : Taken). x .processor) (take-is σ m) ∙ ap (λ (v : Verdict). takeAs v σ P .processor) (acc .verdict)
+
+      left : h ≡ over (records (freshOf σ P)) h₀
+      left =
+          post .buffer σ m ∙ ap (λ (k : ℕ). takeBufferAs (takeVerdict σ P k) σ P h₀) lent ∙ ap (λ (v : Verdict). takeBufferAs v σ P h₀) (acc .verdict)
+          ∙ ap (λ (l : List ℕ). over l h₀) (handed-fresh σ)
+
+      pub replies-wrote : (size e : ℕ) (b′ : List ℕ) → size ≡ 18 * min n most → at + 39 * most ≤ length b → WritePost (recordLines (length (take size h) / 18) (take size h)) at b e b′
+          → Wrote (replyLines (freshOf σ P)) at b e b′
+      replies-wrote size e b′ cut room w =
+          records-wrote (freshOf σ P) h h₀ n most size left (acc .count ∙ count-fresh σ) (few σ) cut at b e b′ room w
 
   module _ (room : at + 339 ≤ length b) where
     -- ---- a refusal
@@ -179,39 +244,19 @@ module _ (p : Processor) (at : ℕ) (b : List ℕ) where
             output = λ σ m. sym (over-at-nil at b) ∙ ap (λ (v : Verdict). over-at (printed (openedAs v mode azimuth)) at b) (sym (a .verdict));
           }
 
-    -- ---- a piece
+    -- ---- a piece of at most 64 ticks
 
     module _ (P : Trace) (small : length (P .flags) ≤ 64) (h₀ h : List ℕ) (lent : length h₀ ≡ 72) (t : Taken) (post : TakePost p P h₀ t h) where
       fresh-few : (σ : Sweep) → length (freshOf σ P) ≤ 4
       fresh-few none = omega arith
       fresh-few (running mode azimuth T) = omega (arith, fresh-most standard T P)
 
-      count-fresh : (σ : Sweep) → countOf σ P ≡ length (freshOf σ P)
-      count-fresh none = refl
-      count-fresh (running mode azimuth T) = refl
-
-      handed-fresh : (σ : Sweep) → handedOut σ P ≡ records (freshOf σ P)
-      unfolding records
-      handed-fresh none = refl
-      handed-fresh (running mode azimuth T) = refl
-
-      abbrev take-verdict : Sweep → Verdict
-      take-verdict σ = takeVerdict σ P 72
-
-      take-is : (σ : Sweep) → Made σ p → t ≡ takeAs (take-verdict σ) σ P
-      take-is σ m = post .result σ m ∙ ap (λ (n : ℕ). takeAs (takeVerdict σ P n) σ P) lent
-
-      take-answer : (σ : Sweep) (v : Verdict) → takeAs v σ P .answer ≡ answered v (countOf σ P)
-      unfolding answered
-      take-answer σ accepted = refl
-      take-answer σ (refused k) = refl
-
-      pub take-refused : (k : ℕ) → t .answer ≡ Refused k → (r : Stepped) (b′ : List ℕ) → CarryPost (λ σ. stops k) p at b r b′
+      pub take-refused : (k : ℕ) → t .answer ≡ Refused k → (r : Stepped) (b′ : List ℕ) → CarryPost (λ σ. stops k) (t .processor) at b r b′
           → CarryPost (λ σ. takenAs (takeVerdict σ P 72) σ P) p at b r b′
       take-refused k e r b′ c =
           carry-as (λ σ. takenAs (takeVerdict σ P 72) σ P) (λ σ. stops k) r b′
-          (λ σ m. ap (λ (v : Verdict). takenAs v σ P)
-          (refused-is (take-verdict σ) (countOf σ P) (t .answer) k (ap (λ (x : Taken). x .answer) (take-is σ m) ∙ take-answer σ (take-verdict σ)) e)) c
+          (λ σ m. ap (λ (v : Verdict). takenAs v σ P) (turned-down P 72 4 fresh-few h₀ h lent t post k e σ m))
+          (stop-same (t .processor) k r b′ (λ σ m. given-back P 72 4 fresh-few h₀ h lent t post k e σ m) c)
 
       pub take-accepted : (n : ℕ) → t .answer ≡ Accepted n → (size e : ℕ) (b′ : List ℕ) → size ≡ 18 * min n 4
           → WritePost (recordLines (length (take size h) / 18) (take size h)) at b e b′
@@ -220,23 +265,16 @@ module _ (p : Processor) (at : ℕ) (b : List ℕ) where
           record {
             inside = write-inside (recordLines (length (take size h) / 18) (take size h)) at b e b′ (omega arith) w;
             result = λ σ m.
-                ap₂ (λ (x : ℕ) (y : Processor). record { step = Goes x; processor = y }) (put σ m .place)
-                (ap (λ (x : Taken). x .processor) (take-is σ m) ∙ ap (λ (v : Verdict). takeAs v σ P .processor) (acc σ m .verdict))
-                ∙ ap (λ (v : Verdict). steppedBy (takenAs v σ P) p at) (sym (acc σ m .verdict));
-            output = λ σ m. put σ m .buffer ∙ ap (λ (v : Verdict). over-at (printed (takenAs v σ P)) at b) (sym (acc σ m .verdict));
+                ap₂ (λ (x : ℕ) (y : Processor). record { step = Goes x; processor = y }) (put σ m .place) (went-on P 72 4 fresh-few h₀ h lent t post n q σ m)
+                ∙ ap (λ (v : Verdict). steppedBy (takenAs v σ P) p at) (sym (accepts σ m));
+            output = λ σ m. put σ m .buffer ∙ ap (λ (v : Verdict). over-at (printed (takenAs v σ P)) at b) (sym (accepts σ m));
           }
         where
-          acc : (σ : Sweep) → Made σ p → Accepts (take-verdict σ) (countOf σ P) n
-          acc σ m = accepted-is (take-verdict σ) (countOf σ P) (t .answer) n (ap (λ (x : Taken). x .answer) (take-is σ m) ∙ take-answer σ (take-verdict σ)) q
-
-          left : (σ : Sweep) → Made σ p → h ≡ over (records (freshOf σ P)) h₀
-          left σ m =
-              post .buffer σ m ∙ ap (λ (k : ℕ). takeBufferAs (takeVerdict σ P k) σ P h₀) lent ∙ ap (λ (v : Verdict). takeBufferAs v σ P h₀) (acc σ m .verdict)
-              ∙ ap (λ (l : List ℕ). over l h₀) (handed-fresh σ)
+          accepts : (σ : Sweep) → Made σ p → takeVerdict σ P 72 ≡ accepted
+          accepts σ m = carried-out P 72 4 fresh-few h₀ h lent t post n q σ m
 
           put : (σ : Sweep) → Made σ p → Wrote (replyLines (freshOf σ P)) at b e b′
-          put σ m =
-              records-wrote (freshOf σ P) h h₀ n 4 size (left σ m) (acc σ m .count ∙ count-fresh σ) (fresh-few σ) cut at b e b′ (omega arith) w
+          put σ m = replies-wrote P 72 4 fresh-few h₀ h lent t post n q σ m size e b′ cut (omega arith) w
 
     -- ---- the close
 
@@ -265,12 +303,15 @@ module _ (p : Processor) (at : ℕ) (b : List ℕ) where
       close-answer σ accepted = refl
       close-answer σ (refused k) = refl
 
-      pub close-refused : (k : ℕ) → t .answer ≡ Refused k → (r : Stepped) (b′ : List ℕ) → CarryPost (λ σ. stops k) p at b r b′
+      pub close-refused : (k : ℕ) → t .answer ≡ Refused k → (r : Stepped) (b′ : List ℕ) → CarryPost (λ σ. stops k) (t .processor) at b r b′
           → CarryPost (λ σ. closedAs (closeVerdict σ 144) σ) p at b r b′
       close-refused k e r b′ c =
-          carry-as (λ σ. closedAs (closeVerdict σ 144) σ) (λ σ. stops k) r b′
-          (λ σ m. ap (λ (v : Verdict). closedAs v σ)
-          (refused-is (close-verdict σ) (leftCount σ) (t .answer) k (ap (λ (x : Closed). x .answer) (close-is σ m) ∙ close-answer σ (close-verdict σ)) e)) c
+          carry-as (λ σ. closedAs (closeVerdict σ 144) σ) (λ σ. stops k) r b′ (λ σ m. ap (λ (v : Verdict). closedAs v σ) (verdict σ m))
+          (stop-same (t .processor) k r b′
+          (λ σ m. ap (λ (x : Closed). x .processor) (close-is σ m) ∙ ap (λ (v : Verdict). closeAs v σ .processor) (verdict σ m) ∙ sym (m .is)) c)
+        where
+          verdict : (σ : Sweep) → Made σ p → close-verdict σ ≡ refused k
+          verdict σ m = refused-is (close-verdict σ) (leftCount σ) (t .answer) k (ap (λ (x : Closed). x .answer) (close-is σ m) ∙ close-answer σ (close-verdict σ)) e
 
       pub close-accepted : (n : ℕ) → t .answer ≡ Accepted n → (size e f : ℕ) (b₁ b′ : List ℕ) → size ≡ 18 * min n 8
           → WritePost (recordLines (length (take size h) / 18) (take size h)) at b e b₁ → WritePost (totalsLine (t .totals)) e b₁ f b′

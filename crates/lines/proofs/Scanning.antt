@@ -3,7 +3,7 @@ use Prim.Native.Nat.{ℕ, zero, suc, _+_, _-_, _*_, _≤_, _<_}
 use native.Mathlib.Omega.{arith}
 use mathlib.Core.Path.{_≡_, refl, sym, ap, ap₂, _∙_, subst}
 use mathlib.Core.Logic.{_⊎_, inl, inr}
-use mathlib.Core.Bool.{Bool, true, false, not, cond, _&&_}
+use mathlib.Core.Bool.{Bool, true, false, not, cond, _&&_, _||_}
 use mathlib.Core.List.{List, [], _∷_, _++_, append-assoc, append-nil}
 use lib.Dec.{leb, ltb, eqb}
 use lib.ListN.{length, getD, take, drop, length-append, length-drop, take-append-drop}
@@ -13,7 +13,7 @@ use Rattle.rules.specs.Lists.{All}
 use Rattle.rules.specs.Samples.{Trace, _⧺_, sweepLimit}
 use Rattle.rules.specs.Buffers.{over-at}
 use Rattle.rules.specs.Calls.{Answer as Verdict, accepted, refused, openAnswer, takeAnswer}
-use Rattle.rules.proofs.Truth.{and-left}
+use Rattle.rules.proofs.Truth.{and-left, or-left, or-right}
 use Rattle.rules.proofs.ListLaws.{all-append}
 use Rattle.rules.proofs.Buffers.{over-at-nil, over-at-next}
 use Rattle.sweep.specs.declared.Processor.{Processor}
@@ -23,17 +23,78 @@ use Rattle.sweep.proofs.Answers.{took}
 use Rattle.frames.specs.Frames.{Reading, opening, samples, closing, reading}
 use Rattle.frames.specs.Frames.{refused as unread}
 use Rattle.frames.specs.Writing.{refusalLine}
+use Rattle.frames.specs.Post.{WritePost}
 use Rattle.frames.proofs.Sizes.{Sized, reading-sized, no-newline, too-long}
 use Rattle.lines.specs.declared.carry.Step.{Step}
 use Rattle.lines.specs.declared.carry.Step.the-variants.{Goes, Stops, Full}
 use Rattle.lines.specs.declared.carry.Stepped.{Stepped}
-use Rattle.lines.specs.declared.scan.End.{End}
-use Rattle.lines.specs.declared.scan.End.the-variants.{At, Past}
+use Rattle.lines.specs.declared.ends.End.{End}
+use Rattle.lines.specs.declared.ends.End.the-variants.{At, Past}
 use Rattle.lines.specs.declared.scan.Scan.the-variants.{Rest, Stopped}
 use Rattle.lines.specs.declared.scan.Scan.the-variants.{Full as NoRoom}
 use Rattle.lines.specs.declared.scan.Scanned.{Scanned}
 use Rattle.lines.specs.Survey.{Outcome, goes, stops, openedAs, takenAs, closedAs, carried, lineAt, printed, onto, linesIn, further, surveyed}
-use Rattle.lines.specs.Post.{steppedBy, steppedAs, outputAs, roomy, placeOf, StepPost, NoNewline, LineEnd, LinePast, EndPost, afterwards, Scans, Because, ScanPost}
+use Rattle.lines.specs.Post.{steppedBy, steppedAs, outputAs, roomy, placeOf, StepPost, RestPost, NoNewline, Passed, LineEnd, LinePast, EndPost, afterwards, Scans, Because, ScanPost}
+use Rattle.lines.specs.declared.batch.Batched.{Batched}
+use Rattle.lines.specs.Batches.{BatchPost}
+use Rattle.lines.proofs.Carrying.{Wrote, wrote, write-inside}
+
+-- ---- bytes without a newline
+
+no-bytes : (input : List ℕ) (from to : ℕ) → to ≤ from → NoNewline input from to
+no-bytes input from to h = record { none = λ k a b e. omega arith }
+
+one-byte-more : (input : List ℕ) (from to to′ : ℕ) → to′ ≡ to + 1 → NoNewline input from to → (getD input to 0 ≡ 10 → ⊥) → NoNewline input from to′
+one-byte-more input from to to′ z h d = record { none = λ k a b e. go k a b e (ltb k to) refl }
+  where
+    go : (k : ℕ) → from ≤ k → k < to′ → getD input k 0 ≡ 10 → (t : Bool) → ltb k to ≡ t → ⊥
+    go k a b e true q = h .none k a (ltb-true k to q) e
+    go k a b e false q = d (ap (λ (j : ℕ). getD input j 0) {x = to} {y = k} (omega (arith, ltb-false k to q)) ∙ e)
+
+more-bytes : (input : List ℕ) (from i to : ℕ) → NoNewline input from i → NoNewline input i to → NoNewline input from to
+more-bytes input from i to h g = record { none = λ k a b e. go k a b e (ltb k i) refl }
+  where
+    go : (k : ℕ) → from ≤ k → k < to → getD input k 0 ≡ 10 → (t : Bool) → ltb k i ≡ t → ⊥
+    go k a b e true q = h .none k a (ltb-true k i q) e
+    go k a b e false q = g .none k (ltb-false k i q) b e
+
+-- the bytes from `from` to before place from + k are looked at
+pub record Noticed (input : List ℕ) (from k : ℕ) (seen : Bool) : Type 0 where
+  pub most : k ≤ 32
+  pub before : seen ≡ false → NoNewline input from (from + k)
+
+module _ (input : List ℕ) (from : ℕ) where
+  pub noticed-none : Noticed input from 0 false
+  noticed-none = record { most = omega arith; before = λ z. no-bytes input from (from + 0) (omega arith) }
+
+  pub noticed-next : (k : ℕ) (seen : Bool) → k < 32 → Noticed input from k seen → Noticed input from (k + 1) (seen || eqb (getD input (from + k) 0) 10)
+  noticed-next k seen l h =
+      record {
+        most = omega arith;
+        before = λ z.
+            one-byte-more input from (from + k) (from + (k + 1)) (omega arith) (h .before (or-left seen (eqb (getD input (from + k) 0) 10) z))
+            (eqb-false (getD input (from + k) 0) 10 (or-right seen (eqb (getD input (from + k) 0) 10) z));
+      }
+
+  pub noticed-all : (k : ℕ) (seen : Bool) → 32 ≤ k → Noticed input from k seen → seen ≡ false → NoNewline input from (from + 32)
+  noticed-all k seen l h z = more-bytes input from (from + k) (from + 32) (h .before z) (no-bytes input (from + k) (from + 32) (omega arith))
+
+-- k times 32 bytes are passed
+pub record Passing (input : List ℕ) (from i k : ℕ) : Type 0 where
+  pub most : k ≤ 8
+  pub place : i ≡ from + 32 * k
+  pub before : NoNewline input from i
+
+module _ (input : List ℕ) (from : ℕ) where
+  pub passing-start : Passing input from from 0
+  passing-start = record { most = omega arith; place = omega arith; before = no-bytes input from from (omega arith) }
+
+  module _ (i k : ℕ) (h : Passing input from i k) where
+    pub passing-next : k < 8 → NoNewline input i (i + 32) → Passing input from (i + 32) (k + 1)
+    passing-next l g = record { most = omega arith; place = omega (arith, h .place); before = more-bytes input from i (i + 32) (h .before) g }
+
+    pub passing-end : Passed input from i
+    passing-end = record { start = omega (arith, h .place); most = omega (arith, h .place, h .most); before = h .before }
 
 -- ---- where a line ends
 
@@ -44,8 +105,9 @@ pub record Looking (input : List ℕ) (from i left : ℕ) : Type 0 where
   pub seen : NoNewline input from i
 
 module _ (input : List ℕ) (from : ℕ) where
-  pub looking-start : Looking input from from 259
-  looking-start = record { start = omega arith; sum = omega arith; some = omega arith; seen = record { none = λ k a b e. omega arith } }
+  pub looking-start : (i : ℕ) → Passed input from i → Looking input from i (259 - (i - from))
+  looking-start i h =
+      record { start = h .start; sum = omega (arith, h .start, h .most); some = omega (arith, h .most); seen = h .before }
 
   module _ (i left : ℕ) (h : Looking input from i left) (more : i < length input) where
     upTo : NoNewline input from (i + 1 - 1)
@@ -69,12 +131,8 @@ module _ (input : List ℕ) (from : ℕ) where
           start = omega (arith, h .start);
           sum = omega (arith, h .sum, h .some);
           some = omega (arith, z);
-          seen = record { none = λ k a b e. go k a b e (ltb k i) refl };
+          seen = one-byte-more input from i (i + 1) refl (h .seen) d;
         }
-      where
-        go : (k : ℕ) → from ≤ k → k < i + 1 → getD input k 0 ≡ 10 → (t : Bool) → ltb k i ≡ t → ⊥
-        go k a b e true q = h .seen .none k a (ltb-true k i q) e
-        go k a b e false q = d (ap (λ (j : ℕ). getD input j 0) {x = i} {y = k} (omega (arith, ltb-false k i q)) ∙ e)
 
   pub looking-past : (i left : ℕ) → length input ≤ i → Looking input from i left → EndPost input from Past
   looking-past i left l h =
@@ -91,7 +149,7 @@ plain [] h = tt
 plain (c ∷ l) h = (h 0 (omega arith), plain l (λ k s. h (suc k) (omega arith)))
 
 -- the bytes from one place to another
-abbrev part : List ℕ → ℕ → ℕ → List ℕ
+abbrev pub part : List ℕ → ℕ → ℕ → List ℕ
 part input from to = take (to - from) (drop from input)
 
 part-plain : (input : List ℕ) (from to : ℕ) → from ≤ to → to ≤ length input → NoNewline input from to → Plain (part input from to)
@@ -208,7 +266,7 @@ module _ (input : List ℕ) (from to : ℕ) (h : LineEnd input from to) where
 
 -- ---- the sweep that goes on is one that accepted calls make
 
-abbrev Good : Outcome → Type 0
+abbrev pub Good : Outcome → Type 0
 Good (goes σ l) = Sound σ
 Good (stops k) = Unit {0}
 
@@ -222,13 +280,13 @@ good-open mode azimuth = go (leb 1 mode && leb mode 3) (ltb 16383 azimuth) refl
     go true false e =
         record { named = leb-true 1 mode (and-left (leb 1 mode) (leb mode 3) e); alike = refl; short = omega arith; bytes = tt }
 
-good-take : (σ : Sweep) → Sound σ → (P : Trace) → All (λ v. v ≤ 255) (P .values) → (v : Verdict) → takeVerdict σ P 72 ≡ v → Good (takenAs v σ P)
+pub good-take : (σ : Sweep) → Sound σ → (P : Trace) → All (λ v. v ≤ 255) (P .values) → (room : ℕ) (v : Verdict) → takeVerdict σ P room ≡ v → Good (takenAs v σ P)
 unfolding takeVerdict
-good-take none s P b accepted e = tt
-good-take none s P b (refused k) e = tt
-good-take (running mode azimuth T) s P b (refused k) e = tt
-good-take (running mode azimuth T) s P b accepted e =
-    let t = took true (length (T .flags)) (P .flags) (P .values) 72 e in
+good-take none s P b room accepted e = tt
+good-take none s P b room (refused k) e = tt
+good-take (running mode azimuth T) s P b room (refused k) e = tt
+good-take (running mode azimuth T) s P b room accepted e =
+    let t = took true (length (T .flags)) (P .flags) (P .values) room e in
     record {
       named = s .named;
       alike = length-append (T .flags) (P .flags) ∙ ap₂ (λ (x y : ℕ). x + y) (s .alike) (t .alike) ∙ sym (length-append (T .values) (P .values));
@@ -242,7 +300,7 @@ good-close σ (refused k) = tt
 
 good-carried : (σ : Sweep) → Sound σ → (x : Reading) → Sized x → Good (carried σ x)
 good-carried σ s (opening mode azimuth) z = good-open mode azimuth
-good-carried σ s (samples P) z = good-take σ s P (z .bytes) (takeVerdict σ P 72) refl
+good-carried σ s (samples P) z = good-take σ s P (z .bytes) 72 (takeVerdict σ P 72) refl
 good-carried σ s closing z = good-close σ (closeVerdict σ 144)
 good-carried σ s (unread k) z = tt
 
@@ -336,6 +394,36 @@ module _ (p : Processor) (input : List ℕ) (from at : ℕ) (b₀ : List ℕ) wh
   module _ (q : Processor) (i place : ℕ) (b : List ℕ) (h : Scanning p input from at b₀ q i place b) where
     pub scanned-rest : LinePast input i → ScanPost p input from at b₀ (record { scan = Rest; processor = q; from = i; at = place }) b
     scanned-rest e = record { reach = h .reach; inside = h .inside; because = λ σ m. e; scans = h .scans }
+
+    -- lines of samples, carried out together
+    pub scanning-batch : (r : Batched) (b′ : List ℕ) → length b′ ≡ length b → BatchPost q input i place b r b′ → Scanning p input from at b₀ (r .processor) (r .from) (r .at) b′
+    scanning-batch r b′ l g = go (leb place (length b)) refl
+      where
+        go : (t : Bool) → leb place (length b) ≡ t → Scanning p input from at b₀ (r .processor) (r .from) (r .at) b′
+        go false z =
+            let s = g .still (leb-false place (length b) z) in
+            subst (λ (x : Batched). Scanning p input from at b₀ (x .processor) (x .from) (x .at) b′) (sym (s .0))
+            (subst (Scanning p input from at b₀ q i place) (sym (s .1)) h)
+        go true z =
+            record {
+              size = l ∙ h .size;
+              reach = λ x. g .reach (h .reach x);
+              inside = λ x. omega (arith, g .inside (leb-true place (length b) z), h .size);
+              scans = λ σ m.
+                  let d = h .scans σ m in
+                  let w = g .scans (d .next) (d .made) in
+                  record {
+                    new = d .new ++ w .new;
+                    next = w .next;
+                    made = w .made;
+                    place = omega (arith, w .place, d .place, length-append (d .new) (w .new));
+                    output = over-at-next (d .new) (w .new) b₀ b b′ at place (d .place) (omega (arith, leb-true place (length b) z, h .size)) (d .output) (w .output);
+                    why = tt;
+                    same = λ R.
+                        d .same R ∙ ap (λ (x : List ℕ). d .new ++ x) (w .same R)
+                        ∙ sym (append-assoc (d .new) (w .new) (surveyed (linesIn (drop (r .from) input ++ R)) (w .next)));
+                  };
+            }
 
     module _ (to : ℕ) (line : LineEnd input i to) (s : Stepped) (b′ : List ℕ) (step : StepPost q (part input i to) place b s b′) where
       -- the line goes on, with what it printed behind what was
@@ -456,3 +544,26 @@ survey-rest l σ h s =
     let p : Plain l = plain l (λ k q e. h .before .none k (omega arith) q e) in
     let n = nine σ l (no-newline l (plain-last l p s)) in
     (ap (λ (ls : List (List ℕ)). surveyed ls σ) (lines-rest l p s) ∙ ap (λ (o : Outcome). further o (surveyed [])) n ∙ ap printed (sym n), n)
+
+-- so that nothing of them, and nothing of the sweep, has to be looked at
+module _ (at : ℕ) (b : List ℕ) where
+  pub rest-full : roomy at b ≡ false → RestPost at b Full b
+  rest-full z =
+      record {
+        inside = λ h. h;
+        result = λ σ p l h s. ap (λ (t : Bool). steppedAs t (lineAt σ l) p at) (sym z);
+        output = λ σ l h s. ap (λ (t : Bool). outputAs t (lineAt σ l) at b) (sym z);
+      }
+
+  pub rest-stops : roomy at b ≡ true → (e : ℕ) (b′ : List ℕ) → WritePost (refusalLine 9) at b e b′ → RestPost at b (Stops 9 e) b′
+  rest-stops z e b′ w =
+      record {
+        inside = λ h. write-inside (refusalLine 9) at b e b′ h w;
+        result = λ σ p l h s.
+            ap (λ (x : ℕ). record { step = Stops 9 x; processor = p }) (done .place)
+            ∙ ap₂ (λ (t : Bool) (o : Outcome). steppedAs t o p at) (sym z) (sym (survey-rest l σ h s .1));
+        output = λ σ l h s. done .buffer ∙ ap₂ (λ (t : Bool) (o : Outcome). outputAs t o at b) (sym z) (sym (survey-rest l σ h s .1));
+      }
+    where
+      done : Wrote (refusalLine 9) at b e b′
+      done = wrote (refusalLine 9) at b e b′ (omega (arith, leb-true (at + 339) (length b) z)) w

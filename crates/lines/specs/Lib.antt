@@ -2,3 +2,4 @@
 pub mod Survey
 pub mod Post
 pub mod Whole
+pub mod Batches

@@ -20,8 +20,8 @@ use Rattle.frames.specs.Writing.{refusalLine}
 use Rattle.lines.specs.declared.carry.Step.{Step}
 use Rattle.lines.specs.declared.carry.Step.the-variants.{Goes, Stops, Full}
 use Rattle.lines.specs.declared.carry.Stepped.{Stepped}
-use Rattle.lines.specs.declared.scan.End.{End}
-use Rattle.lines.specs.declared.scan.End.the-variants.{At, Past}
+use Rattle.lines.specs.declared.ends.End.{End}
+use Rattle.lines.specs.declared.ends.End.the-variants.{At, Past}
 use Rattle.lines.specs.declared.scan.Scan.{Scan}
 use Rattle.lines.specs.declared.scan.Scan.the-variants.{Rest, Stopped}
 use Rattle.lines.specs.declared.scan.Scan.the-variants.{Full as NoRoom}
@@ -96,6 +96,12 @@ countIn (Refused k) = 0
 pub record NoNewline (input : List ℕ) (from to : ℕ) : Type 0 where
   pub none : (k : ℕ) → from ≤ k → k < to → getD input k 0 ≡ 10 → ⊥
 
+-- the line that begins at `from` goes on to `to` at least
+pub record Passed (input : List ℕ) (from to : ℕ) : Type 0 where
+  pub start : from ≤ to
+  pub most : to ≤ from + 256
+  pub before : NoNewline input from to
+
 -- a line begins at `from` and ends before `to`: with a newline, or at 259 bytes, which are no line any more
 pub record LineEnd (input : List ℕ) (from to : ℕ) : Type 0 where
   pub some : from < to
@@ -107,6 +113,12 @@ pub record LineEnd (input : List ℕ) (from to : ℕ) : Type 0 where
 pub record LinePast (input : List ℕ) (from : ℕ) : Type 0 where
   pub short : length input < from + 259
   pub before : NoNewline input from (length input)
+
+-- What is left at the end of the input, bytes without a newline, is a last line: what any such line makes of any sweep, and prints.
+pub record RestPost (at : ℕ) (b : List ℕ) (r : Step) (b′ : List ℕ) : Type 0 where
+  pub inside : at ≤ length b → placeOf r at ≤ length b
+  pub result : (σ : Sweep) (p : Processor) (l : List ℕ) → LinePast l 0 → 0 < length l → record { step = r; processor = p } ≡ steppedAs (roomy at b) (lineAt σ l) p at
+  pub output : (σ : Sweep) (l : List ℕ) → LinePast l 0 → 0 < length l → b′ ≡ outputAs (roomy at b) (lineAt σ l) at b
 
 abbrev pub EndPost : List ℕ → ℕ → End → Type 0
 EndPost input from (At to) = LineEnd input from to

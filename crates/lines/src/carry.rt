@@ -6,7 +6,7 @@ ghost use lib.ListN.{length};
 ghost use Rattle.rules.specs.Calls.{openAnswer};
 ghost use Rattle.sweep.specs.Post.{takeVerdict, closeVerdict};
 ghost use Rattle.lines.specs.Survey.{stops, openedAs, takenAs, closedAs};
-ghost use Rattle.lines.specs.Post.{CarryPost, StepPost, pieceOf, saidAt, numberOf, countIn, roomy as roomy′};
+ghost use Rattle.lines.specs.Post.{CarryPost, StepPost, RestPost, pieceOf, saidAt, numberOf, countIn, roomy as roomy′};
 use frames::Frame;
 use frames::Line;
 use frames::read;
@@ -64,7 +64,7 @@ fn opened(p: Processor, mode: u8, azimuth: u16, out: &mut [u8], at: usize) -> St
 }
 
 // At most so many.
-fn least(n: usize, most: usize) -> usize
+pub fn least(n: usize, most: usize) -> usize
     ensures { λ r. ⌜ r ≡ min n most ⌝ }
 {
     if n < most {
@@ -81,10 +81,10 @@ fn taken(p: Processor, flags: &[u8], values: &[u8], out: &mut [u8], at: usize) -
     let mut handed = [0u8; 72];
     let t = take(p, flags, values, &mut handed);
     let answer = t.answer;
+    let next = t.processor;
     match answer {
-        Answer::Refused(number) => stop(p, number, out, at),
+        Answer::Refused(number) => stop(next, number, out, at),
         Answer::Accepted(count) => {
-            let next = t.processor;
             let size = 18 * least(count, 4);
             let end = reply_lines(&handed[..size], out, at);
             Stepped {
@@ -102,10 +102,10 @@ fn closed(p: Processor, out: &mut [u8], at: usize) -> Stepped
     let mut handed = [0u8; 144];
     let c = close(p, &mut handed);
     let answer = c.answer;
+    let next = c.processor;
     match answer {
-        Answer::Refused(number) => stop(p, number, out, at),
+        Answer::Refused(number) => stop(next, number, out, at),
         Answer::Accepted(count) => {
-            let next = c.processor;
             let totals = c.totals;
             let size = 18 * least(count, 8);
             let place = reply_lines(&handed[..size], out, at);
@@ -174,4 +174,15 @@ pub fn line_step(p: Processor, line: &[u8], out: &mut [u8], at: usize) -> Steppe
     let mut values = [0u8; 64];
     let said = read(line, &mut flags, &mut values);
     carry_out(p, said, &flags, &values, out, at)
+}
+
+// What the bytes left at the end of the input print. No newline ends them, so that they are refused, whatever the sweep is.
+pub fn rest_step(out: &mut [u8], at: usize) -> Step
+    ensures { λ r. ⌜ RestPost at (now (out .entry)) r (now (out .exit)) ⌝ }
+{
+    if !roomy(out, at) {
+        return Step::Full;
+    }
+    let end = refusal_line(9, out, at);
+    Step::Stops(9, end)
 }

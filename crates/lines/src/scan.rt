@@ -1,14 +1,11 @@
 // The lines of an input, one after the other.
-ghost use Rattle.lines.specs.Post.{EndPost, ScanPost};
+ghost use Rattle.lines.specs.Post.{ScanPost};
+use super::batch::batch;
 use super::carry::Step;
 use super::carry::line_step;
+use super::ends::End;
+use super::ends::line_end;
 use sweep::Processor;
-
-// A line ends behind its newline, or behind 259 bytes without one, which are no line any more; or it goes on past the input.
-enum End {
-    At(usize),
-    Past,
-}
 
 // What a scan came to: the rest of the input is the start of a line; the output has no more room; or a refusal has stopped the survey.
 pub enum Scan {
@@ -25,27 +22,6 @@ pub struct Scanned {
     pub at: usize,
 }
 
-// Where the line that begins at `from` ends.
-fn line_end(input: &[u8], from: usize) -> End
-    ensures { λ r. ⌜ EndPost (now (input .entry)) from r ⌝ }
-{
-    let n = input.len();
-    let mut i = from;
-    let mut left: usize = 259;
-    while i < n {
-        let c = input[i];
-        i += 1;
-        left -= 1;
-        if c == 10 {
-            return End::At(i);
-        }
-        if left == 0 {
-            return End::At(i);
-        }
-    }
-    End::Past
-}
-
 // Carries out the lines of the input from a place on, and prints from place at of the output on.
 pub fn scan_lines(p: Processor, input: &[u8], from: usize, out: &mut [u8], at: usize) -> Scanned
     ensures { λ r. ⌜ ScanPost p (now (input .entry)) from at (now (out .entry)) r (now (out .exit)) ⌝ }
@@ -54,6 +30,10 @@ pub fn scan_lines(p: Processor, input: &[u8], from: usize, out: &mut [u8], at: u
     let mut i = from;
     let mut place = at;
     loop {
+        let b = batch(q, input, i, out, place);
+        q = b.processor;
+        i = b.from;
+        place = b.at;
         let e = line_end(input, i);
         let End::At(end) = e else {
             return Scanned {

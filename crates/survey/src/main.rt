@@ -7,7 +7,7 @@ use libc::STDIN_FILENO;
 use libc::STDOUT_FILENO;
 use lines::Scan;
 use lines::Step;
-use lines::line_step;
+use lines::rest_step;
 use lines::scan_lines;
 use sweep::Processor;
 use sweep::idle;
@@ -127,9 +127,7 @@ fn last(s: Survey, rest: &[u8], output: &mut [u8]) {
     if n == 0 {
         return;
     }
-    let p = s.processor;
-    let e = line_step(p, rest, output, 0);
-    let how = e.step;
+    let how = rest_step(output, 0);
     let Step::Stops(number, at) = how else {
         return;
     };

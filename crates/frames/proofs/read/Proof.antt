@@ -10,8 +10,8 @@ use Rattle.frames.proofs.read.Statement.{statement}
 use Rattle.frames.proofs.read.Tie as tie
 use Rattle.frames.proofs.read.Reads as reads
 use Rattle.frames.proofs.read.Lts as lts
-use Rattle.frames.proofs.byte_at.Reads as byte-at-reads
-use Rattle.frames.proofs.fill.Reads as fill-reads
+use Rattle.frames.proofs.characters.byte_at.Reads as byte-at-reads
+use Rattle.frames.proofs.samples.fill.Reads as fill-reads
 use Rattle.frames.proofs.well_formed.Reads as well-formed-reads
 
 -- src/lib.rt:91:9
@@ -76,7 +76,7 @@ returns-5 c = read-none (c .before .before .before .before .before .before .befo
 
 -- src/lib.rt:112:9
 fill-requires : tie.Need-fill-requires
-fill-requires c κs = (omega (arith, formed (c .before .before .before .before .before .before .before .before .before .before .args .line .now) (sym (c .before .before .before .before .before .before .before .before .well-formed .ensures) ∙ not-false _ (c .before .before .before .before .before .before .before .if1 .left)) .most), omega (arith, formed (c .before .before .before .before .before .before .before .before .before .before .args .line .now) (sym (c .before .before .before .before .before .before .before .before .well-formed .ensures) ∙ not-false _ (c .before .before .before .before .before .before .before .if1 .left)) .most), samples-digits (c .before .before .before .before .before .before .before .before .before .before .args .line .now) (formed (c .before .before .before .before .before .before .before .before .before .before .args .line .now) (sym (c .before .before .before .before .before .before .before .before .well-formed .ensures) ∙ not-false _ (c .before .before .before .before .before .before .before .if1 .left))) _ (c .before .before .before .if5 .left) refl)
+fill-requires c κs = (omega (arith, formed (c .before .before .before .before .before .before .before .before .before .before .args .line .now) (sym (c .before .before .before .before .before .before .before .before .well-formed .ensures) ∙ not-false _ (c .before .before .before .before .before .before .before .if1 .left)) .most), omega (arith, formed (c .before .before .before .before .before .before .before .before .before .before .args .line .now) (sym (c .before .before .before .before .before .before .before .before .well-formed .ensures) ∙ not-false _ (c .before .before .before .before .before .before .before .if1 .left)) .most), omega (arith, formed (c .before .before .before .before .before .before .before .before .before .before .args .line .now) (sym (c .before .before .before .before .before .before .before .before .well-formed .ensures) ∙ not-false _ (c .before .before .before .before .before .before .before .if1 .left)) .most), samples-digits (c .before .before .before .before .before .before .before .before .before .before .args .line .now) (formed (c .before .before .before .before .before .before .before .before .before .before .args .line .now) (sym (c .before .before .before .before .before .before .before .before .well-formed .ensures) ∙ not-false _ (c .before .before .before .before .before .before .before .if1 .left))) _ (c .before .before .before .if5 .left) refl)
 
 -- src/lib.rt:113:9
 returns-6 : tie.Need-returns-6

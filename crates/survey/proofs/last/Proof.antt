@@ -8,7 +8,7 @@ use Rattle.survey.proofs.last.Statement.{statement}
 use Rattle.survey.proofs.last.Tie as tie
 use Rattle.survey.proofs.last.Reads as reads
 use Rattle.survey.proofs.last.Lts as lts
-use Rattle.lines.proofs.line_step.Reads as line-step-reads
+use Rattle.lines.proofs.rest_step.Reads as rest-step-reads
 use Rattle.survey.proofs.more.Reads as more-reads
 use Rattle.survey.proofs.print.Reads as print-reads
 use Rattle.survey.proofs.report.Reads as report-reads
@@ -18,8 +18,8 @@ returns : tie.Need-returns
 returns c = search needs
 
 -- src/main.rt:111:9
-line-step-requires : tie.Need-line-step-requires
-line-step-requires c κs = search needs
+rest-step-requires : tie.Need-rest-step-requires
+rest-step-requires c κs = search needs
 
 -- src/main.rt:113:21
 enum-known-how : tie.Need-enum-known-how
@@ -35,11 +35,11 @@ returns-2 c = search needs
 
 -- src/main.rt:116:14
 slice-reshare-prefix-print : tie.Need-slice-reshare-prefix-print
-slice-reshare-prefix-print c = (omega (arith, c .before .before .before .before .before .line-step .ensures .inside (omega arith), ap (λ (x : Step). placeOf x 0) (c .before .how .given .1), c .before .before .before .before .output .given))
+slice-reshare-prefix-print c = (omega (arith, c .before .before .before .before .before .rest-step .ensures .inside (omega arith), ap (λ (x : Step). placeOf x 0) (c .before .how .given .1), c .before .before .before .before .output .given))
 
 -- src/main.rt:116:14
 slice-aggregate-print : tie.Need-slice-aggregate-print
-slice-aggregate-print c = part-length _ _ (omega (arith, c .before .before .before .before .before .before .line-step .ensures .inside (omega arith), ap (λ (x : Step). placeOf x 0) (c .before .before .how .given .1), c .before .before .before .before .before .output .given))
+slice-aggregate-print c = part-length _ _ (omega (arith, c .before .before .before .before .before .before .rest-step .ensures .inside (omega arith), ap (λ (x : Step). placeOf x 0) (c .before .before .how .given .1), c .before .before .before .before .before .output .given))
 
 -- src/main.rt:116:8
 print-requires : tie.Need-print-requires
@@ -74,7 +74,7 @@ last-spec =
     tie.close
     (tie.spec
     returns
-    line-step-requires
+    rest-step-requires
     enum-known-how
     same-length
     returns-2

@@ -1,9 +1,7 @@
-use Rattle.lines.proofs.Carrying.{part-length}
-use Prim.Native.Nat.{ℕ, _*_}
-use mathlib.Core.Path.{ap}
 use native.Mathlib.Omega.{arith}
-use mathlib.Core.Path.{refl}
-use Rattle.lines.proofs.Carrying.{close-refused, close-accepted}
+use mathlib.Core.Path.{refl, ap}
+use Prim.Native.Nat.{ℕ, _*_}
+use Rattle.lines.proofs.Carrying.{part-length, close-refused, close-accepted}
 use borrow.Author.Needs.{needs}
 use Rattle.lines.proofs.carry.closed.Statement.{statement}
 use Rattle.lines.proofs.carry.closed.Tie as tie
@@ -23,15 +21,15 @@ slice-aggregate-close c = search needs
 close-requires : tie.Need-close-requires
 close-requires c κs = search needs
 
--- src/carry.rt:106:25
+-- src/carry.rt:107:25
 enum-known-answer : tie.Need-enum-known-answer
 enum-known-answer c = search needs
 
--- src/carry.rt:106:36
+-- src/carry.rt:107:36
 stop-requires : tie.Need-stop-requires
 stop-requires c κs = search needs
 
--- src/carry.rt:107:26
+-- src/carry.rt:108:26
 enum-known-answer-2 : tie.Need-enum-known-answer-2
 enum-known-answer-2 c = search needs
 
@@ -65,7 +63,7 @@ same-length c = search needs
 
 -- src/carry.rt:98:1
 returns : tie.Need-returns
-returns c = close-refused (c .before .before .before .before .before .before .before .before .before .before .before .args .p) (c .before .before .before .before .before .before .before .before .before .before .before .args .at) (c .before .before .before .before .before .before .before .before .before .before .before .args .out .now) (c .before .before .before .before .before .before .before .before .before .before .before .pre) _ _ refl _ (c .before .before .before .before .before .before .before .before .close .ensures) _ (c .before .before .before .before .before .answer .given .1) _ _ (c .before .before .stop .ensures)
+returns c = close-refused (c .before .before .before .before .before .before .before .before .before .before .before .before .args .p) (c .before .before .before .before .before .before .before .before .before .before .before .before .args .at) (c .before .before .before .before .before .before .before .before .before .before .before .before .args .out .now) (c .before .before .before .before .before .before .before .before .before .before .before .before .pre) _ _ refl _ (c .before .before .before .before .before .before .before .before .before .close .ensures) _ (c .before .before .before .before .before .answer .given .1) _ _ (c .before .before .stop .ensures)
 
 -- src/carry.rt:98:1
 same-length-2 : tie.Need-same-length-2
@@ -73,7 +71,7 @@ same-length-2 c = search needs
 
 -- src/carry.rt:98:1
 returns-2 : tie.Need-returns-2
-returns-2 c = close-accepted (c .before .before .before .before .before .before .before .before .before .before .before .before .before .before .before .before .before .before .before .args .p) (c .before .before .before .before .before .before .before .before .before .before .before .before .before .before .before .before .before .before .before .args .at) (c .before .before .before .before .before .before .before .before .before .before .before .before .before .before .before .before .before .before .before .args .out .now) (c .before .before .before .before .before .before .before .before .before .before .before .before .before .before .before .before .before .before .before .pre) _ _ refl _ (c .before .before .before .before .before .before .before .before .before .before .before .before .before .before .before .before .close .ensures) _ (c .before .before .before .before .before .before .before .before .before .before .before .before .before .answer2 .given .1) _ _ _ _ _ (ap (λ (x : ℕ). 18 * x) (c .before .before .before .before .before .before .before .before .before .least .ensures)) (c .before .before .before .before .before .before .reply-lines .ensures) (c .before .before .totals-line .ensures)
+returns-2 c = close-accepted (c .before .before .before .before .before .before .before .before .before .before .before .before .before .before .before .before .before .before .before .args .p) (c .before .before .before .before .before .before .before .before .before .before .before .before .before .before .before .before .before .before .before .args .at) (c .before .before .before .before .before .before .before .before .before .before .before .before .before .before .before .before .before .before .before .args .out .now) (c .before .before .before .before .before .before .before .before .before .before .before .before .before .before .before .before .before .before .before .pre) _ _ refl _ (c .before .before .before .before .before .before .before .before .before .before .before .before .before .before .before .before .close .ensures) _ (c .before .before .before .before .before .before .before .before .before .before .before .before .answer2 .given .1) _ _ _ _ _ (ap (λ (x : ℕ). 18 * x) (c .before .before .before .before .before .before .before .before .before .least .ensures)) (c .before .before .before .before .before .before .reply-lines .ensures) (c .before .before .totals-line .ensures)
 
 pub closed-spec : {M : Type 1} → statement M
 closed-spec =

@@ -1,10 +1,8 @@
-use Rattle.lines.proofs.Carrying.{part-length}
-use Prim.Native.Nat.{ℕ, _*_}
-use mathlib.Core.Path.{ap}
-use native.Mathlib.Omega.{arith}
-use mathlib.Core.Path.{refl}
 use Rattle.lines.specs.Post.{pieceOf}
-use Rattle.lines.proofs.Carrying.{take-refused, take-accepted}
+use native.Mathlib.Omega.{arith}
+use mathlib.Core.Path.{refl, ap}
+use Prim.Native.Nat.{ℕ, _*_}
+use Rattle.lines.proofs.Carrying.{part-length, take-refused, take-accepted}
 use borrow.Author.Needs.{needs}
 use Rattle.lines.proofs.carry.taken.Statement.{statement}
 use Rattle.lines.proofs.carry.taken.Tie as tie
@@ -23,15 +21,15 @@ slice-aggregate-take c = search needs
 take-requires : tie.Need-take-requires
 take-requires c κs = search needs
 
--- src/carry.rt:85:25
+-- src/carry.rt:86:25
 enum-known-answer : tie.Need-enum-known-answer
 enum-known-answer c = search needs
 
--- src/carry.rt:85:36
+-- src/carry.rt:86:36
 stop-requires : tie.Need-stop-requires
 stop-requires c κs = search needs
 
--- src/carry.rt:86:26
+-- src/carry.rt:87:26
 enum-known-answer-2 : tie.Need-enum-known-answer-2
 enum-known-answer-2 c = search needs
 
@@ -61,7 +59,7 @@ same-length c = search needs
 
 -- src/carry.rt:77:1
 returns : tie.Need-returns
-returns c = take-refused (c .before .before .before .before .before .before .before .before .before .before .before .before .before .args .p) (c .before .before .before .before .before .before .before .before .before .before .before .before .before .args .at) (c .before .before .before .before .before .before .before .before .before .before .before .before .before .args .out .now) (c .before .before .before .before .before .before .before .before .before .before .before .before .before .pre .1) (pieceOf (c .before .before .before .before .before .before .before .before .before .before .before .before .before .args .flags .now) (c .before .before .before .before .before .before .before .before .before .before .before .before .before .args .values .now)) (c .before .before .before .before .before .before .before .before .before .before .before .before .before .pre .0) _ _ refl _ (c .before .before .before .before .before .before .before .before .take .ensures) _ (c .before .before .before .before .before .answer .given .1) _ _ (c .before .before .stop .ensures)
+returns c = take-refused (c .before .before .before .before .before .before .before .before .before .before .before .before .before .before .args .p) (c .before .before .before .before .before .before .before .before .before .before .before .before .before .before .args .at) (c .before .before .before .before .before .before .before .before .before .before .before .before .before .before .args .out .now) (c .before .before .before .before .before .before .before .before .before .before .before .before .before .before .pre .1) (pieceOf (c .before .before .before .before .before .before .before .before .before .before .before .before .before .before .args .flags .now) (c .before .before .before .before .before .before .before .before .before .before .before .before .before .before .args .values .now)) (c .before .before .before .before .before .before .before .before .before .before .before .before .before .before .pre .0) _ _ refl _ (c .before .before .before .before .before .before .before .before .before .take .ensures) _ (c .before .before .before .before .before .answer .given .1) _ _ (c .before .before .stop .ensures)
 
 -- src/carry.rt:77:1
 same-length-2 : tie.Need-same-length-2
@@ -69,7 +67,7 @@ same-length-2 c = search needs
 
 -- src/carry.rt:77:1
 returns-2 : tie.Need-returns-2
-returns-2 c = take-accepted (c .before .before .before .before .before .before .before .before .before .before .before .before .before .before .before .before .args .p) (c .before .before .before .before .before .before .before .before .before .before .before .before .before .before .before .before .args .at) (c .before .before .before .before .before .before .before .before .before .before .before .before .before .before .before .before .args .out .now) (c .before .before .before .before .before .before .before .before .before .before .before .before .before .before .before .before .pre .1) (pieceOf (c .before .before .before .before .before .before .before .before .before .before .before .before .before .before .before .before .args .flags .now) (c .before .before .before .before .before .before .before .before .before .before .before .before .before .before .before .before .args .values .now)) (c .before .before .before .before .before .before .before .before .before .before .before .before .before .before .before .before .pre .0) _ _ refl _ (c .before .before .before .before .before .before .before .before .before .before .before .take .ensures) _ (c .before .before .before .before .before .before .before .before .answer2 .given .1) _ _ _ (ap (λ (x : ℕ). 18 * x) (c .before .before .before .before .before .least .ensures)) (c .before .before .reply-lines .ensures)
+returns-2 c = take-accepted (c .before .before .before .before .before .before .before .before .before .before .before .before .before .before .before .before .args .p) (c .before .before .before .before .before .before .before .before .before .before .before .before .before .before .before .before .args .at) (c .before .before .before .before .before .before .before .before .before .before .before .before .before .before .before .before .args .out .now) (c .before .before .before .before .before .before .before .before .before .before .before .before .before .before .before .before .pre .1) (pieceOf (c .before .before .before .before .before .before .before .before .before .before .before .before .before .before .before .before .args .flags .now) (c .before .before .before .before .before .before .before .before .before .before .before .before .before .before .before .before .args .values .now)) (c .before .before .before .before .before .before .before .before .before .before .before .before .before .before .before .before .pre .0) _ _ refl _ (c .before .before .before .before .before .before .before .before .before .before .before .take .ensures) _ (c .before .before .before .before .before .before .before .answer2 .given .1) _ _ _ (ap (λ (x : ℕ). 18 * x) (c .before .before .before .before .before .least .ensures)) (c .before .before .reply-lines .ensures)
 
 pub taken-spec : {M : Type 1} → statement M
 taken-spec =

@@ -1,0 +1,429 @@
+-- Lines of samples taken as one piece: the sweep takes the piece if and only if it takes the lines, and the replies are the same.
+use Prim.Native.Nat.{ℕ, zero, suc, _+_, _-_, _*_, _/_, _≤_, _<_, min}
+use native.Mathlib.Omega.{arith}
+use mathlib.Core.Path.{_≡_, refl, sym, ap, ap₂, _∙_, subst}
+use mathlib.Core.Logic.{_⊎_, inl, inr}
+use mathlib.Core.Bool.{Bool, true, false, not, cond, _&&_, _||_}
+use mathlib.Core.List.{List, [], _∷_, _++_, append-assoc, append-nil}
+use lib.Dec.{ltb, eqb}
+use lib.ListN.{length, getD, take, drop, set, length-append, take-append-drop}
+use lib.Seq.{length-take-le, take-suc, take-take, take-append-seam, take-at}
+use borrow.Author.Tests.{lt-leb, le-leb, eq-eqb, le-ltb}
+use Rattle.rules.specs.declared.Reply.{Reply}
+use Rattle.rules.specs.Settings.{standard}
+use Rattle.rules.specs.Lists.{any}
+use Rattle.rules.specs.Samples.{Trace, _⧺_, bad, pieceLimit, sweepLimit}
+use Rattle.rules.specs.Buffers.{over, over-at}
+use Rattle.rules.specs.Calls.{Answer as Verdict, accepted, refused, takeAnswer, takeRoom, fresh, handed}
+use Rattle.rules.proofs.Truth.{impossible, or-left, or-right}
+use Rattle.rules.proofs.ListLaws.{all-append}
+use Rattle.rules.proofs.Buffers.{put-one, over-at-nil}
+use Rattle.rules.proofs.Joining.{handed-fresh, append-same, fresh-join}
+use Rattle.rules.proofs.HandingOut.{fresh-most}
+use Rattle.sweep.specs.declared.Answer.the-variants.{Accepted, Refused}
+use Rattle.sweep.specs.declared.Processor.{Processor}
+use Rattle.sweep.specs.declared.Taken.{Taken}
+use Rattle.sweep.specs.State.{Sweep, none, running, Sound, Made}
+use Rattle.sweep.specs.Post.{longer, takeVerdict, TakePost}
+use Rattle.sweep.proofs.Answers.{standard-allowed, took, join-assoc, join-nothing}
+use Rattle.frames.specs.declared.Line.{Line}
+use Rattle.frames.specs.Frames.{Reading, opening, samples, closing, reading}
+use Rattle.frames.specs.Frames.{refused as unread}
+use Rattle.frames.specs.Writing.{replyLine, replyLines, recordLines}
+use Rattle.frames.specs.Post.{lineOf, flagsAfter, valuesAfter, ReadPost, WritePost}
+use Rattle.frames.proofs.Sizes.{Sized, reading-sized}
+use Rattle.frames.proofs.Printing.{over-at-length, Putting, putting-start, putting-next}
+use Rattle.lines.specs.declared.batch.Gathering.{Gathering}
+use Rattle.lines.specs.declared.batch.Batched.{Batched}
+use Rattle.lines.specs.declared.scan.Scan.the-variants.{Rest}
+use Rattle.lines.specs.Survey.{Outcome, goes, takenAs, freshOf, carried, lineAt, linesIn, further, surveyed}
+use Rattle.lines.specs.Post.{pieceOf, countIn, LineEnd, Scans}
+use Rattle.lines.specs.Batches.{beginsSamples, samplesIn, AddPost, Takes, Gathered, GatherPost, batchAs, printedAs, TakeAllPost, BatchPost}
+use Rattle.lines.proofs.Carrying.{Wrote, write-inside, flags-lent, values-lent, said-most, turned-down, given-back, carried-out, went-on, replies-wrote}
+use Rattle.lines.proofs.Scanning.{good-take, part, survey-first}
+
+-- ---- the first two characters
+
+module _ (input : List ℕ) (from : ℕ) where
+  pub begins-short : length input < from + 2 → false ≡ beginsSamples input from
+  begins-short h = rw (lt-leb (from + 2) (length input) h)
+
+  pub begins-long : from + 2 ≤ length input → (eqb (getD input from 0) 48 && eqb (getD input (from + 1) 0) 50) ≡ beginsSamples input from
+  begins-long h = rw (le-leb (from + 2) (length input) h)
+
+-- ---- bytes put behind others
+
+abbrev pub firstOnes : List ℕ → ℕ → List ℕ
+firstOnes l i = take i l
+
+module _ (l : List ℕ) (k : ℕ) (short : k ≤ length l) (n : ℕ) (b₀ : List ℕ) (room : n + k ≤ length b₀) where
+  pub append-start : Putting (firstOnes l) k n b₀ b₀ 0
+  append-start = putting-start (firstOnes l) k n b₀ refl
+
+  pub append-next : (b : List ℕ) (i : ℕ) → i < k → Putting (firstOnes l) k n b₀ b i → Putting (firstOnes l) k n b₀ (set b (n + i) (getD l i 0)) (i + 1)
+  append-next b i h s =
+      putting-next (firstOnes l) k n b₀ b (set b (n + i) (getD l i 0)) (getD l i 0 ∷ []) i (n + i)
+      (ap (λ (j : ℕ). take j l) {x = i + 1} {y = suc i} (omega arith) ∙ take-suc l i 0 (omega arith))
+      (omega (arith, length-take-le i l (omega arith))) (omega (arith, h)) h (put-one b (n + i) (getD l i 0) (omega (arith, s .size))) s
+
+  pub append-end : (b : List ℕ) (i : ℕ) → k ≤ i → Putting (firstOnes l) k n b₀ b i → b ≡ over-at (take k l) n b₀
+  append-end b i h s = s .is ∙ ap (λ (j : ℕ). over-at (take j l) n b₀) {x = i} {y = k} (omega (arith, h, s .most))
+
+-- the bytes before a place, and the first of those put there
+behind-over : (l b : List ℕ) (n k : ℕ) → n ≤ length b → k ≤ length l → take (n + k) (over-at l n b) ≡ take n b ++ take k l
+unfolding over-at
+behind-over l b n k h m =
+    ap (take (n + k))
+    (ap (λ (x : List ℕ). (take n b ++ x) ++ drop (n + length l) b) (sym (take-append-drop k l))
+    ∙ ap (λ (x : List ℕ). x ++ drop (n + length l) b) (sym (append-assoc (take n b) (take k l) (drop k l)))
+    ∙ append-assoc (take n b ++ take k l) (drop k l) (drop (n + length l) b))
+    ∙ take-at (take n b ++ take k l) (drop k l ++ drop (n + length l) b) (n + k)
+    (length-append (take n b) (take k l) ∙ omega (arith, length-take-le n b h, length-take-le k l m))
+
+-- ---- the samples of a line
+
+first-over : (l b : List ℕ) → take (length l) (over l b) ≡ l
+unfolding over
+first-over l b = take-append-seam l (drop (length l) b)
+
+module _ (n : ℕ) (f₀ v₀ f v : List ℕ) (flags values : List ℕ) where
+  added : (x : Reading) → Sized x → take (countIn (lineOf x)) (flagsAfter x f₀) ≡ samplesIn x .flags
+  added (opening mode azimuth) s = refl
+  added (samples P) s = first-over (P .flags) f₀
+  added closing s = refl
+  added (unread k) s = refl
+
+  added-values : (x : Reading) → Sized x → take (countIn (lineOf x)) (valuesAfter x v₀) ≡ samplesIn x .values
+  added-values (opening mode azimuth) s = refl
+  added-values (samples P) s = ap (λ (k : ℕ). take k (over (P .values) v₀)) (s .alike) ∙ first-over (P .values) v₀
+  added-values closing s = refl
+  added-values (unread k) s = refl
+
+  counted : (x : Reading) → countIn (lineOf x) ≡ length (samplesIn x .flags)
+  counted (opening mode azimuth) = refl
+  counted (samples P) = refl
+  counted closing = refl
+  counted (unread k) = refl
+
+  pub add-post : (line : List ℕ) (said : Line) → ReadPost line f₀ v₀ said f v → length f₀ ≡ 64 → length v₀ ≡ 64 → n + 64 ≤ length flags → n + 64 ≤ length values
+      → (k : ℕ) → k ≡ countIn said → (flags′ values′ : List ℕ) → flags′ ≡ over-at (take 64 f) n flags → values′ ≡ over-at (take 64 v) n values
+      → AddPost line n flags values k flags′ values′
+  add-post line said r f-size v-size f-room v-room k e flags′ values′ p q =
+      record {
+        count = count ∙ counted (reading line);
+        flagRoom = ap length p ∙ over-at-length (take 64 f) n flags (omega (arith, f-long));
+        valueRoom = ap length q ∙ over-at-length (take 64 v) n values (omega (arith, v-long));
+        flagBytes =
+            ap (take (n + k)) p ∙ behind-over (take 64 f) flags n k (omega arith) (omega (arith, f-long, few))
+            ∙ ap (λ (l : List ℕ). take n flags ++ l) (take-take k 64 f few ∙ ap₂ take count (r .flagBytes) ∙ added (reading line) (reading-sized line));
+        valueBytes =
+            ap (take (n + k)) q ∙ behind-over (take 64 v) values n k (omega arith) (omega (arith, v-long, few))
+            ∙ ap (λ (l : List ℕ). take n values ++ l) (take-take k 64 v few ∙ ap₂ take count (r .valueBytes) ∙ added-values (reading line) (reading-sized line));
+      }
+    where
+      count : k ≡ countIn (lineOf (reading line))
+      count = e ∙ ap countIn (r .result)
+
+      few : k ≤ 64
+      few = omega (arith, e, said-most line f₀ v₀ said f v r)
+
+      f-long : length (take 64 f) ≡ 64
+      f-long = length-take-le 64 f (omega (arith, flags-lent line f₀ v₀ said f v r f-size))
+
+      v-long : length (take 64 v) ≡ 64
+      v-long = length-take-le 64 v (omega (arith, values-lent line f₀ v₀ said f v r v-size))
+
+-- ---- a sweep that takes two traces end to end
+
+any-first : (l k : List ℕ) → any bad (l ++ k) ≡ false → any bad l ≡ false
+any-first [] k h = refl
+any-first (x ∷ l) k h = ap₂ (λ (a c : Bool). a || c) (or-left (bad x) (any bad (l ++ k)) h) (any-first l k (or-right (bad x) (any bad (l ++ k)) h))
+
+any-second : (l k : List ℕ) → any bad (l ++ k) ≡ false → any bad k ≡ false
+any-second [] k h = h
+any-second (x ∷ l) k h = any-second l k (or-right (bad x) (any bad (l ++ k)) h)
+
+takes-first : (σ : Sweep) (A B : Trace) → Takes σ (A ⧺ B) → Takes σ A
+takes-first σ A B t =
+    record { is-open = t .is-open; within = omega (arith, t .within, length-append (A .flags) (B .flags)); good = any-first (A .flags) (B .flags) (t .good) }
+
+takes-second : (σ : Sweep) (A B : Trace) → Takes σ (A ⧺ B) → Takes (longer σ A) B
+takes-second none A B t = absurd (impossible (sym (t .is-open)))
+takes-second (running mode azimuth T) A B t =
+    record {
+      is-open = refl;
+      within = omega (arith, t .within, length-append (A .flags) (B .flags), length-append (T .flags) (A .flags));
+      good = any-second (A .flags) (B .flags) (t .good);
+    }
+
+skip : (c : Bool) (k : ℕ) (v : Verdict) → c ≡ false → cond c (refused k) v ≡ v
+skip c k v e = ap (λ (t : Bool). cond t (refused k) v) e
+
+takes-accepted : (σ : Sweep) (P : Trace) (room : ℕ) → Takes σ P → length (P .flags) ≡ length (P .values) → length (P .flags) ≤ pieceLimit → takeRoom (length (P .flags)) ≤ room
+    → takeVerdict σ P room ≡ accepted
+unfolding takeVerdict takeAnswer
+takes-accepted none P room t a p r = absurd (impossible (sym (t .is-open)))
+takes-accepted (running mode azimuth T) P room t a p r =
+    let n = length (P .flags) in
+    let v8 = cond (any bad (P .flags)) (refused 8) accepted in
+    let v7 = cond (ltb room (takeRoom n)) (refused 7) v8 in
+    let v6 = cond (ltb sweepLimit (length (T .flags) + n)) (refused 6) v7 in
+    let v5 = cond (ltb pieceLimit n) (refused 5) v6 in
+    skip (not (eqb n (length (P .values)))) 4 v5 (ap not (eq-eqb n (length (P .values)) a))
+    ∙ skip (ltb pieceLimit n) 5 v6 (le-ltb pieceLimit n p)
+    ∙ skip (ltb sweepLimit (length (T .flags) + n)) 6 v7 (le-ltb sweepLimit (length (T .flags) + n) (t .within))
+    ∙ skip (ltb room (takeRoom n)) 7 v8 (le-ltb room (takeRoom n) r)
+    ∙ skip (any bad (P .flags)) 8 accepted (t .good)
+
+accepted-takes : (σ : Sweep) (P : Trace) (room : ℕ) → takeVerdict σ P room ≡ accepted → Takes σ P
+unfolding takeVerdict takeAnswer
+accepted-takes none P room e = absurd (let z : _≡_ {A = ℕ} 0 1 = cc in omega arith)
+accepted-takes (running mode azimuth T) P room e =
+    let t = took true (length (T .flags)) (P .flags) (P .values) room e in
+    record { is-open = refl; within = t .sweep; good = t .good }
+
+-- ---- what two traces let out, and what they make of a sweep
+
+fresh-none : (σ : Sweep) → Sound σ → freshOf σ (record { flags = []; values = [] }) ≡ []
+fresh-none none s = refl
+fresh-none (running mode azimuth T) s =
+    append-same (handed standard T) (fresh standard T (record { flags = []; values = [] })) []
+    (sym (handed-fresh standard standard-allowed T (record { flags = []; values = [] }) (s .alike)) ∙ ap (handed standard) (join-nothing T) ∙ sym (append-nil (handed standard T)))
+
+longer-none : (σ : Sweep) → longer σ (record { flags = []; values = [] }) ≡ σ
+longer-none none = refl
+longer-none (running mode azimuth T) = ap (running mode azimuth) (join-nothing T)
+
+longer-both : (σ : Sweep) (A B : Trace) → longer (longer σ A) B ≡ longer σ (A ⧺ B)
+longer-both none A B = refl
+longer-both (running mode azimuth T) A B = ap (running mode azimuth) (join-assoc T A B)
+
+fresh-both : (σ : Sweep) → Sound σ → (A B : Trace) → length (A .flags) ≡ length (A .values) → freshOf σ A ++ freshOf (longer σ A) B ≡ freshOf σ (A ⧺ B)
+fresh-both none s A B a = refl
+fresh-both (running mode azimuth T) s A B a = sym (fresh-join standard standard-allowed T A B (s .alike) a)
+
+replies-both : (F G : List Reply) → replyLines (F ++ G) ≡ replyLines F ++ replyLines G
+replies-both [] G = refl
+replies-both (r ∷ F) G = ap (λ (l : List ℕ). replyLine r ++ l) (replies-both F G) ∙ sym (append-assoc (replyLine r) (replyLines F) (replyLines G))
+
+-- ---- the lines so far
+
+gathered-none : (input : List ℕ) (from : ℕ) → Gathered input from from (record { flags = []; values = [] })
+gathered-none input from =
+    record {
+      start = omega arith;
+      reach = λ h. h;
+      alike = refl;
+      bytes = tt;
+      same = λ σ s t R.
+          ap (surveyed (linesIn (drop from input ++ R))) (sym (longer-none σ))
+          ∙ ap (λ (F : List Reply). replyLines F ++ surveyed (linesIn (drop from input ++ R)) (longer σ (record { flags = []; values = [] }))) (sym (fresh-none σ s));
+    }
+
+module _ (input : List ℕ) (from i to : ℕ) (T : Trace) (g : Gathered input from i T) (line : LineEnd input i to) where
+  one-more : (P : Trace) → reading (part input i to) ≡ samples P → Sized (samples P) → Gathered input from to (T ⧺ P)
+  unfolding lineAt
+  one-more P e z =
+      record {
+        start = omega (arith, g .start, line .some);
+        reach = λ h. line .inside;
+        alike = length-append (T .flags) (P .flags) ∙ ap₂ (λ (x y : ℕ). x + y) (g .alike) (z .alike) ∙ sym (length-append (T .values) (P .values));
+        bytes = all-append (λ v. v ≤ 255) (T .values) (P .values) (g .bytes) (z .bytes);
+        same = both;
+      }
+    where
+      says : (σ : Sweep) → Takes σ P → lineAt σ (part input i to) ≡ goes (longer σ P) (replyLines (freshOf σ P))
+      says σ t =
+          ap (carried σ) e
+          ∙ ap (λ (v : Verdict). takenAs v σ P) (takes-accepted σ P 72 t (z .alike) (omega (arith, z .most)) (omega (arith, z .most)))
+
+      both : (σ : Sweep) → Sound σ → Takes σ (T ⧺ P) → (R : List ℕ)
+          → surveyed (linesIn (drop from input ++ R)) σ ≡ replyLines (freshOf σ (T ⧺ P)) ++ surveyed (linesIn (drop to input ++ R)) (longer σ (T ⧺ P))
+      both σ s t R =
+          g .same σ s (takes-first σ T P t) R
+          ∙ ap (λ (l : List ℕ). replyLines (freshOf σ T) ++ l)
+          (survey-first input i to line R (longer σ T)
+          ∙ ap (λ (o : Outcome). further o (surveyed (linesIn (drop to input ++ R)))) (says (longer σ T) (takes-second σ T P t)))
+          ∙ sym (append-assoc (replyLines (freshOf σ T)) (replyLines (freshOf (longer σ T) P)) (surveyed (linesIn (drop to input ++ R)) (longer (longer σ T) P)))
+          ∙ ap₂ (λ (l : List ℕ) (τ : Sweep). l ++ surveyed (linesIn (drop to input ++ R)) τ)
+          (sym (replies-both (freshOf σ T) (freshOf (longer σ T) P)) ∙ ap replyLines (fresh-both σ s T P (g .alike))) (longer-both σ T P)
+
+  line-more : (x : Reading) → reading (part input i to) ≡ x → Sized x → 0 < length (samplesIn x .flags) → Gathered input from to (T ⧺ samplesIn x)
+  line-more (opening mode azimuth) e z h = absurd (omega arith)
+  line-more (samples P) e z h = one-more P e z
+  line-more closing e z h = absurd (omega arith)
+  line-more (unread k) e z h = absurd (omega arith)
+
+-- n samples are gathered, from the lines up to place i
+pub record SoFar (input : List ℕ) (from : ℕ) (flags₀ values₀ flags values : List ℕ) (i n : ℕ) : Type 0 where
+  pub most : n ≤ 4096
+  pub flag-room : length flags ≡ length flags₀
+  pub value-room : length values ≡ length values₀
+  pub all : Gathered input from i (pieceOf (take n flags) (take n values))
+
+module _ (input : List ℕ) (from : ℕ) (flags₀ values₀ : List ℕ) where
+  pub so-far-start : SoFar input from flags₀ values₀ flags₀ values₀ from 0
+  so-far-start = record { most = omega arith; flag-room = refl; value-room = refl; all = gathered-none input from }
+
+  module _ (flags values : List ℕ) (i n : ℕ) (h : SoFar input from flags₀ values₀ flags values i n) where
+    pub so-far-end : (r : Gathering) → r .end ≡ i → r .n ≡ n → GatherPost input from r flags values
+    so-far-end r e f =
+        record {
+          most = omega (arith, f, h .most);
+          all = subst (λ (k : ℕ). Gathered input from (r .end) (pieceOf (take k flags) (take k values))) (sym f)
+              (subst (λ (k : ℕ). Gathered input from k (pieceOf (take n flags) (take n values))) (sym e) (h .all));
+        }
+
+    module _ (to : ℕ) (k : ℕ) (flags′ values′ : List ℕ) (p : AddPost (part input i to) n flags values k flags′ values′) where
+      abbrev read-here : Reading
+      read-here = reading (part input i to)
+
+      sizes : (y : Reading) → Sized y → (length (samplesIn y .flags) ≤ 64) × (length (samplesIn y .flags) ≡ length (samplesIn y .values))
+      sizes (opening mode azimuth) z = (omega arith, refl)
+      sizes (samples P) z = (z .most, z .alike)
+      sizes closing z = (omega arith, refl)
+      sizes (unread j) z = (omega arith, refl)
+
+      short : length (samplesIn read-here .flags) ≤ 64
+      short = sizes read-here (reading-sized (part input i to)) .0
+
+      alike : length (samplesIn read-here .flags) ≡ length (samplesIn read-here .values)
+      alike = sizes read-here (reading-sized (part input i to)) .1
+
+      nothing : (l b : List ℕ) → length l ≡ 0 → b ++ l ≡ b
+      nothing [] b e = append-nil b
+      nothing (x ∷ l) b e = absurd (omega (arith, e))
+
+      pub so-far-few : k ≤ 64
+      so-far-few = omega (arith, short, p .count)
+
+      -- a line that says something else adds nothing
+      pub so-far-same : k ≡ 0 → SoFar input from flags₀ values₀ flags′ values′ i n
+      so-far-same e =
+          record {
+            most = h .most;
+            flag-room = p .flagRoom ∙ h .flag-room;
+            value-room = p .valueRoom ∙ h .value-room;
+            all = subst (Gathered input from i) (sym (ap₂ pieceOf flags-same values-same)) (h .all);
+          }
+        where
+          flags-same : take n flags′ ≡ take n flags
+          flags-same =
+              ap (λ (m : ℕ). take m flags′) {x = n} {y = n + k} (omega (arith, e)) ∙ p .flagBytes ∙ nothing (samplesIn read-here .flags) (take n flags) (omega (arith, e, p .count))
+
+          values-same : take n values′ ≡ take n values
+          values-same =
+              ap (λ (m : ℕ). take m values′) {x = n} {y = n + k} (omega (arith, e)) ∙ p .valueBytes
+              ∙ nothing (samplesIn read-here .values) (take n values) (omega (arith, e, p .count, alike))
+
+      pub so-far-next : n ≤ 4032 → LineEnd input i to → (k ≡ 0 → ⊥) → SoFar input from flags₀ values₀ flags′ values′ to (n + k)
+      so-far-next s line d =
+          record {
+            most = omega (arith, short, p .count);
+            flag-room = p .flagRoom ∙ h .flag-room;
+            value-room = p .valueRoom ∙ h .value-room;
+            all = subst (Gathered input from to) (sym (ap₂ pieceOf (p .flagBytes) (p .valueBytes)))
+                (line-more input from i to (pieceOf (take n flags) (take n values)) (h .all) line read-here refl (reading-sized (part input i to)) (omega (arith, p .count, d)));
+          }
+
+-- ---- the piece
+
+pub part-short : (l : List ℕ) (n m : ℕ) → n ≤ m → length (take n l) ≤ m
+part-short l zero m h = omega arith
+part-short [] (suc n) m h = omega arith
+part-short (x ∷ l) (suc n) zero h = absurd (omega arith)
+part-short (x ∷ l) (suc n) (suc m) h = omega (arith, part-short l n m (omega arith))
+
+module _ (p : Processor) (T : Trace) (from to at : ℕ) (b : List ℕ) (room : at + 3120 ≤ length b) (small : length (T .flags) ≤ 4096)
+    (h₀ h : List ℕ) (lent : length h₀ ≡ 1440) (t : Taken) (post : TakePost p T h₀ t h) where
+  few : (σ : Sweep) → length (freshOf σ T) ≤ 80
+  few none = omega arith
+  few (running mode azimuth T₀) = omega (arith, fresh-most standard T₀ T)
+
+  pub all-refused : (k : ℕ) → t .answer ≡ Refused k → TakeAllPost p T from to at b (record { processor = t .processor; from = from; at = at }) b
+  all-refused k e =
+      record {
+        either = inl refl;
+        inside = omega arith;
+        result = λ σ m.
+            ap (λ (q : Processor). record { processor = q; from = from; at = at }) (given-back p at b T 1440 80 few h₀ h lent t post k e σ m)
+            ∙ ap (λ (v : Verdict). batchAs v σ T p from to at) (sym (turned-down p at b T 1440 80 few h₀ h lent t post k e σ m));
+        output = λ σ m. sym (over-at-nil at b) ∙ ap (λ (v : Verdict). over-at (printedAs v σ T) at b) (sym (turned-down p at b T 1440 80 few h₀ h lent t post k e σ m));
+      }
+
+  pub all-accepted : (n : ℕ) → t .answer ≡ Accepted n → (size e : ℕ) (b′ : List ℕ) → size ≡ 18 * min n 80
+      → WritePost (recordLines (length (take size h) / 18) (take size h)) at b e b′ → TakeAllPost p T from to at b (record { processor = t .processor; from = to; at = e }) b′
+  all-accepted n q size e b′ cut w =
+      record {
+        either = inr refl;
+        inside = write-inside (recordLines (length (take size h) / 18) (take size h)) at b e b′ (omega arith) w;
+        result = λ σ m.
+            ap₂ (λ (x : ℕ) (y : Processor). record { processor = y; from = to; at = x }) (put σ m .place) (went-on p at b T 1440 80 few h₀ h lent t post n q σ m)
+            ∙ ap (λ (v : Verdict). batchAs v σ T p from to at) (sym (accepts σ m));
+        output = λ σ m. put σ m .buffer ∙ ap (λ (v : Verdict). over-at (printedAs v σ T) at b) (sym (accepts σ m));
+      }
+    where
+      accepts : (σ : Sweep) → Made σ p → takeVerdict σ T 1440 ≡ accepted
+      accepts σ m = carried-out p at b T 1440 80 few h₀ h lent t post n q σ m
+
+      put : (σ : Sweep) → Made σ p → Wrote (replyLines (freshOf σ T)) at b e b′
+      put σ m = replies-wrote p at b T 1440 80 few h₀ h lent t post n q σ m size e b′ cut (omega arith) w
+
+-- ---- the lines of the piece
+
+pub batch-nothing : (p : Processor) (input : List ℕ) (from at : ℕ) (b : List ℕ) → BatchPost p input from at b (record { processor = p; from = from; at = at }) b
+batch-nothing p input from at b =
+    record {
+      start = omega arith;
+      reach = λ h. h;
+      inside = λ h. h;
+      still = λ h. (refl, refl);
+      scans = λ σ m. record { new = []; next = σ; made = m; place = omega arith; output = sym (over-at-nil at b); why = tt; same = λ R. refl };
+    }
+
+module _ (p : Processor) (input : List ℕ) (from to at : ℕ) (b : List ℕ) (room : at + 3120 ≤ length b) (T : Trace) (g : Gathered input from to T)
+    (r : Batched) (b′ : List ℕ) (post : TakeAllPost p T from to at b r b′) where
+  scans-by : (σ : Sweep) (m : Made σ p) (v : Verdict) → takeVerdict σ T 1440 ≡ v
+      → Scans σ input from at b (record { scan = Rest; processor = r .processor; from = r .from; at = r .at }) b′
+  scans-by σ m accepted e =
+      let is : r ≡ batchAs accepted σ T p from to at = post .result σ m ∙ ap (λ (v : Verdict). batchAs v σ T p from to at) e in
+      record {
+        new = replyLines (freshOf σ T);
+        next = longer σ T;
+        made = record { is = ap (λ (x : Batched). x .processor) is; sound = good-take σ (m .sound) T (g .bytes) 1440 accepted e };
+        place = ap (λ (x : Batched). x .at) is;
+        output = post .output σ m ∙ ap (λ (v : Verdict). over-at (printedAs v σ T) at b) e;
+        why = tt;
+        same = λ R.
+            g .same σ (m .sound) (accepted-takes σ T 1440 e) R
+            ∙ ap (λ (k : ℕ). replyLines (freshOf σ T) ++ surveyed (linesIn (drop k input ++ R)) (longer σ T)) (sym (ap (λ (x : Batched). x .from) is));
+      }
+  scans-by σ m (refused k) e =
+      let is : r ≡ batchAs (refused k) σ T p from to at = post .result σ m ∙ ap (λ (v : Verdict). batchAs v σ T p from to at) e in
+      record {
+        new = [];
+        next = σ;
+        made = record { is = ap (λ (x : Batched). x .processor) is ∙ m .is; sound = m .sound };
+        place = ap (λ (x : Batched). x .at) is ∙ omega arith;
+        output = post .output σ m ∙ ap (λ (v : Verdict). over-at (printedAs v σ T) at b) e;
+        why = tt;
+        same = λ R. ap (λ (k : ℕ). surveyed (linesIn (drop k input ++ R)) σ) (sym (ap (λ (x : Batched). x .from) is));
+      }
+
+  pub batch-post : BatchPost p input from at b r b′
+  batch-post =
+      record {
+        start = begins (post .either);
+        reach = λ h. reaches h (post .either);
+        inside = λ h. post .inside;
+        still = λ h. absurd (omega (arith, room, h));
+        scans = λ σ m. scans-by σ m (takeVerdict σ T 1440) refl;
+      }
+    where
+      begins : (r .from ≡ from) ⊎ (r .from ≡ to) → from ≤ r .from
+      begins (inl e) = omega (arith, e)
+      begins (inr e) = omega (arith, e, g .start)
+
+      reaches : from ≤ length input → (r .from ≡ from) ⊎ (r .from ≡ to) → r .from ≤ length input
+      reaches h (inl e) = omega (arith, e, h)
+      reaches h (inr e) = omega (arith, e, g .reach h)

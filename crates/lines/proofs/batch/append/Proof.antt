@@ -1,0 +1,66 @@
+use Rattle.lines.proofs.Batching.{firstOnes, append-start, append-next, append-end}
+use Rattle.frames.proofs.Printing.{Putting}
+use native.Mathlib.Omega.{arith}
+use Prim.Native.Nat.{_-_}
+use Rattle.lines.proofs.batch.append.Statement.{statement}
+use Rattle.lines.proofs.batch.append.Tie as tie
+use Rattle.lines.proofs.batch.append.Reads as reads
+use Rattle.lines.proofs.batch.append.Lts as lts
+
+abbrev Inv-loop : tie.InvT-loop
+Inv-loop bytes all₀ n i₀ all i = Putting (firstOnes bytes) 64 n all₀ all i
+
+abbrev μ-loop : tie.MeasureT-loop
+μ-loop bytes all₀ n i₀ all i = 64 - i
+
+-- src/batch.rt:39:5
+loop-holds : tie.Need-loop-holds Inv-loop μ-loop
+loop-holds c = append-start (c .args .bytes .now) 64 (c .pre .0) (c .args .n) (c .args .all .now) (c .pre .1)
+
+-- src/batch.rt:40:22
+shared-slice-read-all : tie.Need-shared-slice-read-all Inv-loop μ-loop
+shared-slice-read-all c = omega (arith, c .before .before .before .pre .0)
+
+-- src/batch.rt:40:13
+add-all : tie.Need-add-all Inv-loop μ-loop
+add-all c = omega (arith, c .before .before .before .pre .1)
+
+-- src/batch.rt:40:9
+slice-write-all : tie.Need-slice-write-all Inv-loop μ-loop
+slice-write-all c = omega (arith, c .before .before .before .pre .1, c .before .before .loop .inv .size)
+
+-- src/batch.rt:41:9
+add-i : tie.Need-add-i Inv-loop μ-loop
+add-i c = omega arith
+
+-- src/batch.rt:39:5
+loop-less : tie.Need-loop-less Inv-loop μ-loop
+loop-less c = omega arith
+
+-- src/batch.rt:39:5
+loop-again : tie.Need-loop-again Inv-loop μ-loop
+loop-again c = append-next (c .before .before .before .args .bytes .now) 64 (c .before .before .before .pre .0) (c .before .before .before .args .n) (c .before .before .before .args .all .now) (c .before .before .before .pre .1) (c .before .before .loop .all) (c .before .before .loop .i) (omega arith) (c .before .before .loop .inv)
+
+-- src/batch.rt:34:1
+same-length : tie.Need-same-length Inv-loop μ-loop
+same-length c = c .before .loop .inv .size
+
+-- src/batch.rt:34:1
+returns : tie.Need-returns Inv-loop μ-loop
+returns c = append-end (c .before .before .args .bytes .now) 64 (c .before .before .pre .0) (c .before .before .args .n) (c .before .before .args .all .now) (c .before .before .pre .1) (c .before .loop .all) (c .before .loop .i) (omega arith) (c .before .loop .inv)
+
+pub append-spec : {M : Type 1} → statement M
+append-spec =
+    tie.close
+    (tie.spec
+    Inv-loop
+    μ-loop
+    loop-holds
+    shared-slice-read-all
+    add-all
+    slice-write-all
+    add-i
+    loop-less
+    loop-again
+    same-length
+    returns)

@@ -1,0 +1,179 @@
+// Lines of samples, as many as there are one after the other, are taken as one piece of up to 4,096 ticks. What they print is the same.
+ghost use Prim.Native.Nat.{_+_, _≤_};
+ghost use mathlib.Core.Path.{_≡_};
+ghost use lib.Dec.{leb};
+ghost use lib.ListN.{length, take};
+ghost use Rattle.rules.specs.Buffers.{over-at};
+ghost use Rattle.lines.specs.Post.{countIn, pieceOf};
+ghost use Rattle.lines.specs.Batches.{beginsSamples, AddPost, GatherPost, TakeAllPost, BatchPost};
+use super::carry::least;
+use super::ends::End;
+use super::ends::line_end;
+use frames::Frame;
+use frames::Line;
+use frames::read;
+use frames::reply_lines;
+use sweep::Answer;
+use sweep::Processor;
+use sweep::take;
+
+// n samples, from lines that end before `end`.
+pub struct Gathering {
+    pub end: usize,
+    pub n: usize,
+}
+
+// `from` is the place in the input behind the last line taken, `at` that in the output behind the last byte printed.
+pub struct Batched {
+    pub processor: Processor,
+    pub from: usize,
+    pub at: usize,
+}
+
+// 64 bytes, from place n of a buffer on.
+fn append(bytes: &[u8], all: &mut [u8], n: usize)
+    requires { ⌜ (64 ≤ length (now bytes)) × (n + 64 ≤ length (now all)) ⌝ }
+    ensures { λ _. ⌜ now (all .exit) ≡ over-at (take 64 (now (bytes .entry))) n (now (all .entry)) ⌝ }
+{
+    let mut i: usize = 0;
+    while i < 64 {
+        all[n + i] = bytes[i];
+        i += 1;
+    }
+}
+
+fn count_in(line: Line) -> usize
+    ensures { λ r. ⌜ r ≡ countIn line ⌝ }
+{
+    let Line::Frame(frame) = line else {
+        return 0;
+    };
+    match frame {
+        Frame::Open(_, _) => 0,
+        Frame::Samples(n) => n,
+        Frame::Close => 0,
+    }
+}
+
+// The samples of a line, from place n of the two buffers on; what stands behind them is of no use. Answers how many: none where the line says
+// something else.
+fn add_samples(line: &[u8], flags: &mut [u8], values: &mut [u8], n: usize) -> usize
+    requires { ⌜ (n + 64 ≤ length (now flags)) × (n + 64 ≤ length (now values)) ⌝ }
+    ensures { λ r. ⌜ AddPost (now (line .entry)) n (now (flags .entry)) (now (values .entry)) r (now (flags .exit)) (now (values .exit)) ⌝ }
+{
+    let mut f = [0u8; 64];
+    let mut v = [0u8; 64];
+    let said = read(line, &mut f, &mut v);
+    let k = count_in(said);
+    append(&f, flags, n);
+    append(&v, values, n);
+    k
+}
+
+// The samples of the lines from a place on, up to the first that says something else.
+fn gather(input: &[u8], from: usize, flags: &mut [u8], values: &mut [u8]) -> Gathering
+    requires { ⌜ (4096 ≤ length (now flags)) × (4096 ≤ length (now values)) ⌝ }
+    ensures { λ r. ⌜ GatherPost (now (input .entry)) from r (now (flags .exit)) (now (values .exit)) ⌝ }
+{
+    let mut i = from;
+    let mut n: usize = 0;
+    while n <= 4032 {
+        let e = line_end(input, i);
+        let End::At(end) = e else {
+            return Gathering { end: i, n };
+        };
+        let k = add_samples(&input[i..end], flags, values, n);
+        if k == 0 {
+            return Gathering { end: i, n };
+        }
+        n += k;
+        i = end;
+    }
+    Gathering { end: i, n }
+}
+
+// Takes a piece and prints the replies; where the sweep does not take it, nothing happens.
+fn take_all(
+    p: Processor,
+    flags: &[u8],
+    values: &[u8],
+    from: usize,
+    to: usize,
+    out: &mut [u8],
+    at: usize,
+) -> Batched
+    requires { ⌜ (length (now flags) ≤ 4096) × (at + 3120 ≤ length (now out)) ⌝ }
+    ensures { λ r. ⌜ TakeAllPost p (pieceOf (now (flags .entry)) (now (values .entry))) from to at (now (out .entry)) r (now (out .exit)) ⌝ }
+{
+    let mut handed = [0u8; 1440];
+    let t = take(p, flags, values, &mut handed);
+    let answer = t.answer;
+    let next = t.processor;
+    match answer {
+        Answer::Refused(_) => Batched {
+            processor: next,
+            from,
+            at,
+        },
+        Answer::Accepted(count) => {
+            let size = 18 * least(count, 80);
+            let end = reply_lines(&handed[..size], out, at);
+            Batched {
+                processor: next,
+                from: to,
+                at: end,
+            }
+        }
+    }
+}
+
+// Whether 80 replies, the most that 4,096 ticks print, have room.
+fn spacious(out: &[u8], at: usize) -> bool
+    ensures { λ r. ⌜ r ≡ leb (at + 3120) (length (now (out .entry))) ⌝ }
+{
+    let room = out.len();
+    if room < at {
+        return false;
+    }
+    3120 <= room - at
+}
+
+// Whether the line at a place begins as samples do, with 02; if not, a batch is not worth a try.
+fn may_say_samples(input: &[u8], from: usize) -> bool
+    ensures { λ r. ⌜ r ≡ beginsSamples (now (input .entry)) from ⌝ }
+{
+    let n = input.len();
+    if n < from {
+        return false;
+    }
+    if n - from < 2 {
+        return false;
+    }
+    (input[from] == 48) & (input[from + 1] == 50)
+}
+
+// Carries out the lines of samples from a place on; where they cannot be taken in one piece, nothing happens.
+pub fn batch(p: Processor, input: &[u8], from: usize, out: &mut [u8], at: usize) -> Batched
+    ensures { λ r. ⌜ BatchPost p (now (input .entry)) from at (now (out .entry)) r (now (out .exit)) ⌝ }
+{
+    if !spacious(out, at) {
+        return Batched {
+            processor: p,
+            from,
+            at,
+        };
+    }
+    if !may_say_samples(input, from) {
+        return Batched {
+            processor: p,
+            from,
+            at,
+        };
+    }
+    let mut flags = [0u8; 4096];
+    let mut values = [0u8; 4096];
+    let g = gather(input, from, &mut flags, &mut values);
+    let n = g.n;
+    let to = g.end;
+    take_all(p, &flags[..n], &values[..n], from, to, out, at)
+}
