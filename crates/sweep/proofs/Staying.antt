@@ -8,8 +8,6 @@ use lib.Dec.{eqb, leb}
 use borrow.Author.Tests.{eqb-true, leb-true, leb-false}
 use Rattle.rules.specs.declared.Machine.{Machine}
 use Rattle.rules.proofs.Truth.{and-left, and-right}
-use Rattle.machine.specs.Places.{test}
-use Rattle.records.specs.declared.Retired.{Retired}
 use Rattle.records.proofs.Handing.{retire-none}
 use Rattle.edges.specs.declared.packing.Planes.{Planes}
 use Rattle.edges.specs.Words.{bit, Holds, Slid}
