@@ -1,10 +1,11 @@
 -- The edge goes to the columns that cover it, one after the other; each changes only its own word and reference.
 use Prim.Native.Nat.{ℕ, _+_, _-_, _/_, _%_, _≤_, _<_}
 use native.Mathlib.Omega.{arith}
-use mathlib.Core.Path.{_≡_, refl, sym, ap, _∙_}
+use mathlib.Core.Path.{_≡_, refl, sym, ap, _∙_, subst}
 use mathlib.Core.Bool.{Bool, true, false, not, _&&_, _||_, cond}
 use mathlib.Core.List.{List}
 use lib.Dec.{leb, eqb}
+use lib.Bits.{bitAnd, bitOr}
 use lib.ListN.{length, getD}
 use lib.Ieee.{Float, nan}
 use borrow.Author.Tests.{leb-true, eqb-true, eqb-false}
@@ -25,9 +26,10 @@ use Rattle.replies.specs.Sums.{capped}
 use Rattle.machine.specs.Places.{test, testSlot, any3, positionIn, reaches, hearAt, dealt}
 use Rattle.machine.proofs.PlaceLaws.{covers-in, deal-by, deal-quiet}
 use Rattle.edges.specs.Words.{bit}
+use Rattle.edges.proofs.BitLaws.{bit-and, bit-or}
 use Rattle.lanes.specs.Columns.{none, marksOf, estimateOf, wordAt, referenceAt, placeIn, placesIn}
 use Rattle.lanes.specs.Masks.{coversFrom}
-use Rattle.lanes.specs.Post.{WordPost, Heard, HearPost, HearIfPost, Dealt, DealPost}
+use Rattle.lanes.specs.Post.{WordPost, Heard, HearPost, HearIfPost, twiceIn, whichOf, Dealt, DealPost}
 use Rattle.lanes.proofs.ColumnLaws.{open-there, idle-place}
 
 -- ---- the position that covers a tick
@@ -319,6 +321,10 @@ covers-by f m w v j u c told seen = go (eqb (getD f j 0) none) refl
 
 -- ---- all columns
 
+or-end : (a : Bool) → a ≡ (a || false)
+or-end true = refl
+or-end false = refl
+
 reaches-not : (u : ℕ) (r : Reply) → covers u r ≡ false → reaches u r ≡ false
 unfolding covers reaches
 reaches-not u r h = go (leb 1 (position (f1 r) u)) (leb (position (f1 r) u) 14) (eqb (position (f1 r) u) 17) h
@@ -438,3 +444,106 @@ module _ (f w : List ℕ) (v : List Float) (on : List ℕ) (e : Pulse) (i : ℕ)
               all-dealt d m (d .e0 ∙ k .at 0 (omega arith) .cover i u li z) (d .e1 ∙ k .at 1 (omega arith) .cover i u li z) (d .e2 ∙ k .at 2 (omega arith) .cover i u li z)
               (d .e3 ∙ k .at 3 (omega arith) .cover i u li z) lw lv;
         }
+
+-- ---- one column alone covers the edge
+
+bit-twice : (on : List ℕ) (i : ℕ)
+    → bit (twiceIn on) i
+    ≡ ((bit (getD on 0 0) i && bit (getD on 1 0) i)
+    || (((bit (getD on 0 0) i || bit (getD on 1 0) i) && bit (getD on 2 0) i) || (((bit (getD on 0 0) i || bit (getD on 1 0) i) || bit (getD on 2 0) i) && bit (getD on 3 0) i)))
+bit-twice on i =
+    let a = getD on 0 0 in
+    let b = getD on 1 0 in
+    let c = getD on 2 0 in
+    let d = getD on 3 0 in
+    rw
+    (bit-or (bitAnd a b) (bitOr (bitAnd (bitOr a b) c) (bitAnd (bitOr (bitOr a b) c) d)) i, bit-or (bitAnd (bitOr a b) c) (bitAnd (bitOr (bitOr a b) c) d) i, bit-and a b i, bit-and (bitOr a b) c i, bit-and (bitOr (bitOr a b) c) d i, bit-or (bitOr a b) c i, bit-or a b i)
+
+-- one of four truth values
+module _ (P : Bool → Bool → Bool → Bool → Type 0) (p0 : P true false false false) (p1 : P false true false false) (p2 : P false false true false) (p3 : P false false false true) where
+  alone : (c0 c1 c2 c3 : Bool) → (c0 || any3 c1 c2 c3) ≡ true → ((c0 && c1) || (((c0 || c1) && c2) || (((c0 || c1) || c2) && c3))) ≡ false → P c0 c1 c2 c3
+  alone true false false false h k = p0
+  alone false true false false h k = p1
+  alone false false true false h k = p2
+  alone false false false true h k = p3
+  alone false false false false h k = absurd (impossible (sym h))
+  alone true true c2 c3 h k = absurd (impossible k)
+  alone true false true c3 h k = absurd (impossible k)
+  alone true false false true h k = absurd (impossible k)
+  alone false true true c3 h k = absurd (impossible k)
+  alone false true false true h k = absurd (impossible k)
+  alone false false true true h k = absurd (impossible k)
+
+module _ (f w : List ℕ) (v : List Float) (on : List ℕ) (e : Pulse) (i : ℕ) (li : i < 64) (own : Bool) (w′ : List ℕ) (v′ : List Float) where
+  -- the steps of four columns, of which those that do not cover do nothing
+  OneDeals : ℕ → Bool → Bool → Bool → Bool → Type 0
+  OneDeals j c0 c1 c2 c3 =
+      c0 ≡ bit (getD on 0 0) i → c1 ≡ bit (getD on 1 0) i → c2 ≡ bit (getD on 2 0) i → c3 ≡ bit (getD on 3 0) i → own ≡ near (standard .window) (getD v j nan) (e .value)
+      → HearPost f w v j e own false w′ v′ → DealPost f w v on e i w′ v′
+
+  one-0 : OneDeals 0 true false false false
+  unfolding OneDeals
+  one-0 e0 e1 e2 e3 eo h =
+      deal-law f w v on e i li true false false false own false false false false own own own w′ w′ w′ w′ v′ v′ v′ v′
+      (record {
+        e0 = e0; e1 = e1; e2 = e2; e3 = e3;
+        t0 = eo; t1 = refl; t2 = refl; t3 = refl;
+        r0 = refl; r1 = or-end own; r2 = or-end own; r3 = or-end own;
+        h0 = hear-does true f w v 0 e own false w′ v′ refl h;
+        h1 = hear-not false f w′ v′ 1 e false own refl;
+        h2 = hear-not false f w′ v′ 2 e false own refl;
+        h3 = hear-not false f w′ v′ 3 e false own refl;
+      })
+
+  one-1 : OneDeals 1 false true false false
+  unfolding OneDeals
+  one-1 e0 e1 e2 e3 eo h =
+      deal-law f w v on e i li false true false false false own false false own false own own w w′ w′ w′ v v′ v′ v′
+      (record {
+        e0 = e0; e1 = e1; e2 = e2; e3 = e3;
+        t0 = refl; t1 = eo; t2 = refl; t3 = refl;
+        r0 = or-end own; r1 = refl; r2 = or-end own; r3 = or-end own;
+        h0 = hear-not false f w v 0 e false own refl;
+        h1 = hear-does true f w v 1 e own false w′ v′ refl h;
+        h2 = hear-not false f w′ v′ 2 e false own refl;
+        h3 = hear-not false f w′ v′ 3 e false own refl;
+      })
+
+  one-2 : OneDeals 2 false false true false
+  unfolding OneDeals
+  one-2 e0 e1 e2 e3 eo h =
+      deal-law f w v on e i li false false true false false false own false own own false own w w w′ w′ v v v′ v′
+      (record {
+        e0 = e0; e1 = e1; e2 = e2; e3 = e3;
+        t0 = refl; t1 = refl; t2 = eo; t3 = refl;
+        r0 = or-end own; r1 = or-end own; r2 = refl; r3 = or-end own;
+        h0 = hear-not false f w v 0 e false own refl;
+        h1 = hear-not false f w v 1 e false own refl;
+        h2 = hear-does true f w v 2 e own false w′ v′ refl h;
+        h3 = hear-not false f w′ v′ 3 e false own refl;
+      })
+
+  one-3 : OneDeals 3 false false false true
+  unfolding OneDeals
+  one-3 e0 e1 e2 e3 eo h =
+      deal-law f w v on e i li false false false true false false false own own own own false w w w w′ v v v v′
+      (record {
+        e0 = e0; e1 = e1; e2 = e2; e3 = e3;
+        t0 = refl; t1 = refl; t2 = refl; t3 = eo;
+        r0 = or-end own; r1 = or-end own; r2 = or-end own; r3 = refl;
+        h0 = hear-not false f w v 0 e false own refl;
+        h1 = hear-not false f w v 1 e false own refl;
+        h2 = hear-not false f w v 2 e false own refl;
+        h3 = hear-does true f w v 3 e own false w′ v′ refl h;
+      })
+
+  pub deal-one : (c0 c1 c2 c3 some both : Bool) (j m : ℕ) → c0 ≡ bit (getD on 0 0) i → c1 ≡ bit (getD on 1 0) i → c2 ≡ bit (getD on 2 0) i → c3 ≡ bit (getD on 3 0) i
+      → some ≡ (c0 || any3 c1 c2 c3) → some ≡ true → m ≡ twiceIn on → both ≡ bit m i → both ≡ false → j ≡ whichOf c1 c2 c3
+      → own ≡ near (standard .window) (getD v j nan) (e .value) → HearPost f w v j e own false w′ v′ → DealPost f w v on e i w′ v′
+  unfolding OneDeals
+  deal-one c0 c1 c2 c3 some both j m e0 e1 e2 e3 es yes′ em eb off ej eo h =
+      let t : ((c0 && c1) || (((c0 || c1) && c2) || (((c0 || c1) || c2) && c3))) ≡ false =
+      (λ k. (e0 k && e1 k) || (((e0 k || e1 k) && e2 k) || (((e0 k || e1 k) || e2 k) && e3 k))) ∙ sym (bit-twice on i) ∙ ap (λ (y : ℕ). bit y i) (sym em) ∙ sym eb ∙ off in
+      let g : OneDeals (whichOf c1 c2 c3) c0 c1 c2 c3 =
+      alone (λ a b c d. OneDeals (whichOf b c d) a b c d) one-0 one-1 one-2 one-3 c0 c1 c2 c3 (sym es ∙ yes′) t in
+      g e0 e1 e2 e3 (eo ∙ ap (λ (y : ℕ). near (standard .window) (getD v y nan) (e .value)) ej) (subst (λ (y : ℕ). HearPost f w v y e own false w′ v′) ej h)

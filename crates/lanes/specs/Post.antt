@@ -4,6 +4,7 @@ use mathlib.Core.Path.{_≡_}
 use mathlib.Core.Bool.{Bool, true, false, _&&_, _||_, cond}
 use mathlib.Core.List.{List}
 use lib.Dec.{leb, eqb}
+use lib.Bits.{bitAnd, bitOr}
 use lib.ListN.{length, getD}
 use lib.Ieee.{Float}
 use Rattle.rules.specs.declared.Word.{Word}
@@ -185,6 +186,19 @@ pub record HearIfPost (c : Bool) (f w : List ℕ) (v : List Float) (j : ℕ) (e 
   pub does : c ≡ true → HearPost f w v j e own other w′ v′
   pub same-row : c ≡ false → w′ ≡ w
   pub same-level : c ≡ false → v′ ≡ v
+
+-- the ticks that two columns or more cover
+abbrev pub twiceIn : List ℕ → ℕ
+twiceIn on =
+    let a = getD on 0 0 in
+    let b = getD on 1 0 in
+    let c = getD on 2 0 in
+    let d = getD on 3 0 in
+    bitOr (bitAnd a b) (bitOr (bitAnd (bitOr a b) c) (bitAnd (bitOr (bitOr a b) c) d))
+
+-- the one column that covers
+abbrev pub whichOf : Bool → Bool → Bool → ℕ
+whichOf c1 c2 c3 = cond c1 1 (cond c2 2 (cond c3 3 0))
 
 -- the edge e, at tick i of the block, goes to the four columns
 pub record Dealt (f m w : List ℕ) (v : List Float) (e : Pulse) (w′ : List ℕ) (v′ : List Float) : Type 0 where

@@ -5,9 +5,11 @@ ghost use mathlib.Core.Bool.{true, _||_, _&&_, not};
 ghost use lib.ListN.{getD};
 ghost use lib.Ieee.{nan};
 ghost use Rattle.rules.specs.Replies.{position as position′, near as near′};
+ghost use Rattle.edges.specs.Words.{bit};
 ghost use Rattle.rules.specs.Settings.{standard};
+ghost use Rattle.machine.specs.Places.{any3 as any3′};
 ghost use Rattle.lanes.specs.Masks.{coversFrom, MaskPost};
-ghost use Rattle.lanes.specs.Post.{LoadPost, HandPost, DropIfPost, PurgePost, OpenPost, FramePost, BracketPost, HearPost, HearIfPost, DealPost, anyOf, insideFrom, militaryFrom, freeIn};
+ghost use Rattle.lanes.specs.Post.{LoadPost, HandPost, DropIfPost, PurgePost, OpenPost, FramePost, BracketPost, HearPost, HearIfPost, DealPost, anyOf, insideFrom, militaryFrom, freeIn, twiceIn, whichOf};
 use super::columns::drop_column;
 use super::columns::place_at;
 use super::columns::put_place;
@@ -279,11 +281,12 @@ fn frame(
     }
     let w = f2.tick;
     let n = purge(f1, marks, row, level, on, i);
+    let last = f1[3];
     let covered = marked(on[0] | on[1] | on[2] | on[3], i);
     if !is_clear(f1, e.main & !covered, f2.main, w.0) {
         return tallied(Fate::Garbled, n, c);
     }
-    if f1[3] != 4294967295 {
+    if last != 4294967295 {
         return tallied(Fate::Lost, n, c);
     }
     open_reply(f1, marks, row, level, on, covered, e, f2, t);
@@ -379,6 +382,46 @@ fn speaks(level: &[f64; 4], j: usize, c: bool, v: u8) -> bool
     c & near(level[j], v)
 }
 
+// A column covers tick i of the block.
+pub fn any_on(on: &[u64; 8], i: u32) -> bool
+    requires { ⌜ i < 64 ⌝ }
+    ensures { λ r. ⌜ r ≡ bit (getD (now (on .entry)) 0 0) i || any3′ (bit (getD (now (on .entry)) 1 0) i) (bit (getD (now (on .entry)) 2 0) i) (bit (getD (now (on .entry)) 3 0) i) ⌝ }
+{
+    let a = marked(on[0], i);
+    let b = marked(on[1], i);
+    let c = marked(on[2], i);
+    let d = marked(on[3], i);
+    any4(a, b, c, d)
+}
+
+// The ticks that two columns or more cover.
+fn twice(on: &[u64; 8]) -> u64
+    ensures { λ r. ⌜ r ≡ twiceIn (now (on .entry)) ⌝ }
+{
+    let a = on[0];
+    let b = on[1];
+    let c = on[2];
+    let d = on[3];
+    (a & b) | (((a | b) & c) | ((a | b | c) & d))
+}
+
+// The one column that covers, by whether those behind the first do.
+fn which(c1: bool, c2: bool, c3: bool) -> usize
+    ensures is { λ j. ⌜ j ≡ whichOf c1 c2 c3 ⌝ }
+    ensures within { λ j. ⌜ j < 4 ⌝ }
+{
+    if c1 {
+        return 1;
+    }
+    if c2 {
+        return 2;
+    }
+    if c3 {
+        return 3;
+    }
+    0
+}
+
 // The edge e, at tick i of the block, goes to each column that covers it; all comparisons use the references from before.
 pub fn deal(
     f1: &[u32; 4],
@@ -396,6 +439,12 @@ pub fn deal(
     let c2 = marked(on[2], i);
     let c3 = marked(on[3], i);
     if !any4(c0, c1, c2, c3) {
+        return;
+    }
+    if !marked(twice(on), i) {
+        let j = which(c1, c2, c3);
+        let own = near(level[j], e.value);
+        hear(f1, row, level, j, e, own, false);
         return;
     }
     let s0 = speaks(level, 0, c0, e.value);

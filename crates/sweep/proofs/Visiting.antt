@@ -1,10 +1,10 @@
 -- One visit of the columns: what is over is handed out, then the edge is taken. The numbers stay small enough for sums of 16 bits.
 use Prim.Native.Nat.{ℕ, suc, _+_, _-_, _*_, _≤_, _<_}
 use native.Mathlib.Omega.{arith}
-use mathlib.Core.Path.{_≡_, refl, ap, _∙_, subst}
-use mathlib.Core.Bool.{Bool, true, false, cond}
+use mathlib.Core.Path.{_≡_, refl, sym, ap, _∙_, subst}
+use mathlib.Core.Bool.{Bool, true, false, _||_, cond}
 use mathlib.Core.List.{List}
-use lib.ListN.{length}
+use lib.ListN.{length, getD}
 use lib.Ieee.{Float}
 use Rattle.rules.specs.declared.Counts.{Counts}
 use Rattle.rules.specs.declared.Pulse.{Pulse}
@@ -17,6 +17,7 @@ use Rattle.rules.specs.Edges.{stands, edgeAt}
 use Rattle.rules.specs.Ranges.{Ranged}
 use Rattle.rules.specs.Replies.{ended}
 use Rattle.rules.specs.Machine.{State, retired, bracketAt, after}
+use Rattle.rules.proofs.Truth.{or-left, or-right}
 use Rattle.rules.proofs.ListLaws.{all-reject, reject-short}
 use Rattle.rules.proofs.Order.{ordered}
 use Rattle.rules.proofs.Outcomes.{after-balanced, after-found}
@@ -25,7 +26,7 @@ use Rattle.rules.proofs.Settled.{edge-timed}
 use Rattle.rules.proofs.Skipping.{visit}
 use Rattle.rules.proofs.EachReply.{value-byte, framing, framed-byte, ranged-each}
 use Rattle.replies.specs.Sums.{capped}
-use Rattle.machine.specs.Places.{dealt, bracketIf, stepOn, placed, machineOf}
+use Rattle.machine.specs.Places.{any3, dealt, bracketIf, stepOn, placed, machineOf}
 use Rattle.machine.proofs.Steps.{balanced-small, edge-post}
 use Rattle.machine.specs.Post.{Small, f2Value, Fits, EdgePost}
 use Rattle.records.specs.Post.{Queue}
@@ -35,10 +36,12 @@ use Rattle.lanes.specs.Columns.{Rows, Sized, placesOf, machineAt}
 use Rattle.lanes.specs.Masks.{AllMasked}
 use Rattle.lanes.specs.Post.{HandPost, f2Tick, BracketPost, DealPost}
 use Rattle.lanes.proofs.Holding.{masked-rows}
+use Rattle.lanes.proofs.Framing.{bracket-none as no-bracket}
+use Rattle.lanes.proofs.Dealing.{deal-none}
 use Rattle.sweep.specs.declared.span.Span.{Span}
 use Rattle.sweep.specs.Steps.{stateAt, Bounded, Shows, Went, VisitPost, valueOf, pulseIn, bracketIn}
 use Rattle.sweep.proofs.Answers.{standard-allowed}
-use Rattle.sweep.proofs.Spans.{span-pulse, span-bracket}
+use Rattle.sweep.proofs.Spans.{span-pulse, span-bracket, bracket-none}
 
 -- ---- the state after some ticks, as the machine's functions want it
 
@@ -163,3 +166,21 @@ pub deal-as : (f w : List ℕ) (v : List Float) (on : List ℕ) (e : Pulse) (i :
     → DealPost f w v on e i w′ v′ → e ≡ pulseIn (s .main) i u y → y ≡ valueOf recent base values (u + 1)
     → DealPost f w v on (pulseIn (s .main) i u (valueOf recent base values (u + 1))) i w′ v′
 deal-as f w v on e i w′ v′ s u y recent base values h p q = subst (λ (P : Pulse). DealPost f w v on P i w′ v′) (p ∙ ap (pulseIn (s .main) i u) q) h
+
+-- an edge without a bracket that no column covers
+pub visit-skip : (x : Rows) (c : Counts) (s : Span) (i t : ℕ) (recent : List ℕ) (base : ℕ) (values : List ℕ) (at : ℕ) (b : List ℕ) (x₁ : Rows) (r : ℕ) (b′ : List ℕ) (u : ℕ) → i < 64
+    → u < 65536 → t < 65000 → ((v : ℕ) → t + i ≡ v + 242 → u ≡ v) → HandPost x u at b x₁ r b′ → (f o : Bool) → f ≡ (bit (s .at168) i || (bit (s .at167) i || bit (s .at169) i))
+    → o ≡ (bit (getD (x₁ .on) 0 0) i || any3 (bit (getD (x₁ .on) 1 0) i) (bit (getD (x₁ .on) 2 0) i) (bit (getD (x₁ .on) 3 0) i)) → (f || o) ≡ false
+    → VisitPost x c s i t recent base values at b x₁ c r b′
+visit-skip x c s i t recent base values at b x₁ r b′ u li lu lt tick h f o ef eo off =
+    let P = pulseIn (s .main) i u (valueOf recent base values (u + 1)) in
+    visit-law x c s i t recent base values at b x₁ r b′ x₁ c (x₁ .row) (x₁ .level) u li lu lt tick
+    (record {
+      retires = h;
+      brackets =
+          no-bracket x₁ c P (bracketIn s i u recent base values) i t
+          (sym (bracket-none s i u recent base values (bit (s .at168) i) (bit (s .at167) i) (bit (s .at169) i) refl refl refl (sym ef ∙ or-left f o off)));
+      deals =
+          deal-none (x₁ .f1) (x₁ .row) (x₁ .level) (x₁ .on) P i li (bit (getD (x₁ .on) 0 0) i) (bit (getD (x₁ .on) 1 0) i) (bit (getD (x₁ .on) 2 0) i) (bit (getD (x₁ .on) 3 0) i) o refl refl
+          refl refl eo (or-right f o off);
+    })

@@ -8,6 +8,7 @@ use super::front::advance;
 use super::front::is_still;
 use super::span::Span;
 use super::span::bracket_at;
+use super::span::framed;
 use super::span::pulse_at;
 use super::span::span_of;
 use super::span::tick_of;
@@ -60,6 +61,9 @@ fn visit(
 {
     let u = tick_of(t, i);
     let end = steps::retire(f1, marks, row, level, on, u, out, at);
+    if !(framed(s, i) | steps::any_on(on, i)) {
+        return Visited { counts: c, at: end };
+    }
     let v = value_at(recent, base, values, u + 1);
     let e = pulse_at(s.main, i, u, v);
     let b = bracket_at(s, i, u, recent, base, values);

@@ -1,7 +1,8 @@
 // The machine's view of 64 ticks u: words of the edges at u and at the three places of an F2, and of the M of each.
 ghost use Prim.Native.Nat.{ℕ, _+_, _<_, _≤_};
 ghost use mathlib.Core.Path.{_≡_};
-ghost use mathlib.Core.Bool.{cond};
+ghost use mathlib.Core.Bool.{_||_, cond};
+ghost use Rattle.edges.specs.Words.{bit};
 ghost use Rattle.sweep.specs.Steps.{SpanPost, TopPost, pulseIn, bracketIn};
 use super::front::Front;
 use super::values::value_at;
@@ -67,6 +68,17 @@ pub fn pulse_at(x: u64, i: u32, t: u32, value: u8) -> Pulse
         main,
         value,
     }
+}
+
+// A bracket stands at the i-th tick of the span, if an edge does.
+pub fn framed(s: Span, i: u32) -> bool
+    requires { ⌜ i < 64 ⌝ }
+    ensures { λ r. ⌜ r ≡ (bit (s .at168) i || (bit (s .at167) i || bit (s .at169) i)) ⌝ }
+{
+    let a = marked(s.at168, i);
+    let b = marked(s.at167, i);
+    let c = marked(s.at169, i);
+    a | (b | c)
 }
 
 // One of two truth values.
