@@ -486,9 +486,18 @@ module _ (f w : List ℕ) (v : List Float) (on : List ℕ) (e : Pulse) (i : ℕ)
   one-0 e0 e1 e2 e3 eo h =
       deal-law f w v on e i li true false false false own false false false false own own own w′ w′ w′ w′ v′ v′ v′ v′
       (record {
-        e0 = e0; e1 = e1; e2 = e2; e3 = e3;
-        t0 = eo; t1 = refl; t2 = refl; t3 = refl;
-        r0 = refl; r1 = or-end own; r2 = or-end own; r3 = or-end own;
+        e0 = e0;
+        e1 = e1;
+        e2 = e2;
+        e3 = e3;
+        t0 = eo;
+        t1 = refl;
+        t2 = refl;
+        t3 = refl;
+        r0 = refl;
+        r1 = or-end own;
+        r2 = or-end own;
+        r3 = or-end own;
         h0 = hear-does true f w v 0 e own false w′ v′ refl h;
         h1 = hear-not false f w′ v′ 1 e false own refl;
         h2 = hear-not false f w′ v′ 2 e false own refl;
@@ -500,9 +509,18 @@ module _ (f w : List ℕ) (v : List Float) (on : List ℕ) (e : Pulse) (i : ℕ)
   one-1 e0 e1 e2 e3 eo h =
       deal-law f w v on e i li false true false false false own false false own false own own w w′ w′ w′ v v′ v′ v′
       (record {
-        e0 = e0; e1 = e1; e2 = e2; e3 = e3;
-        t0 = refl; t1 = eo; t2 = refl; t3 = refl;
-        r0 = or-end own; r1 = refl; r2 = or-end own; r3 = or-end own;
+        e0 = e0;
+        e1 = e1;
+        e2 = e2;
+        e3 = e3;
+        t0 = refl;
+        t1 = eo;
+        t2 = refl;
+        t3 = refl;
+        r0 = or-end own;
+        r1 = refl;
+        r2 = or-end own;
+        r3 = or-end own;
         h0 = hear-not false f w v 0 e false own refl;
         h1 = hear-does true f w v 1 e own false w′ v′ refl h;
         h2 = hear-not false f w′ v′ 2 e false own refl;
@@ -514,9 +532,18 @@ module _ (f w : List ℕ) (v : List Float) (on : List ℕ) (e : Pulse) (i : ℕ)
   one-2 e0 e1 e2 e3 eo h =
       deal-law f w v on e i li false false true false false false own false own own false own w w w′ w′ v v v′ v′
       (record {
-        e0 = e0; e1 = e1; e2 = e2; e3 = e3;
-        t0 = refl; t1 = refl; t2 = eo; t3 = refl;
-        r0 = or-end own; r1 = or-end own; r2 = refl; r3 = or-end own;
+        e0 = e0;
+        e1 = e1;
+        e2 = e2;
+        e3 = e3;
+        t0 = refl;
+        t1 = refl;
+        t2 = eo;
+        t3 = refl;
+        r0 = or-end own;
+        r1 = or-end own;
+        r2 = refl;
+        r3 = or-end own;
         h0 = hear-not false f w v 0 e false own refl;
         h1 = hear-not false f w v 1 e false own refl;
         h2 = hear-does true f w v 2 e own false w′ v′ refl h;
@@ -528,9 +555,18 @@ module _ (f w : List ℕ) (v : List Float) (on : List ℕ) (e : Pulse) (i : ℕ)
   one-3 e0 e1 e2 e3 eo h =
       deal-law f w v on e i li false false false true false false false own own own own false w w w w′ v v v v′
       (record {
-        e0 = e0; e1 = e1; e2 = e2; e3 = e3;
-        t0 = refl; t1 = refl; t2 = refl; t3 = eo;
-        r0 = or-end own; r1 = or-end own; r2 = or-end own; r3 = refl;
+        e0 = e0;
+        e1 = e1;
+        e2 = e2;
+        e3 = e3;
+        t0 = refl;
+        t1 = refl;
+        t2 = refl;
+        t3 = eo;
+        r0 = or-end own;
+        r1 = or-end own;
+        r2 = or-end own;
+        r3 = refl;
         h0 = hear-not false f w v 0 e false own refl;
         h1 = hear-not false f w v 1 e false own refl;
         h2 = hear-not false f w v 2 e false own refl;

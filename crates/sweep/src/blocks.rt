@@ -234,6 +234,9 @@ pub fn silent_block(o: Run, t: u32, recent: &[u8; 256], base: u32, out: &mut [u8
         n: 0,
         m: 0,
     };
+    if stays(o, x, t) {
+        return o;
+    }
     let before = o.front;
     let machine = o.machine;
     let front = advance(before, x, 64);

@@ -1,3 +1,4 @@
+use mathlib.Core.Bool.{_||_}
 use borrow.Author.Needs.{needs}
 use Rattle.sweep.proofs.span.framed.Statement.{statement}
 use Rattle.sweep.proofs.span.framed.Tie as tie
@@ -19,7 +20,7 @@ marked-requires-3 c κs = search needs
 
 -- src/span.rt:74:1
 returns : tie.Need-returns
-returns c = ?
+returns c = λ i. c .before .before .marked .ensures i || (c .before .marked2 .ensures i || c .marked3 .ensures i)
 
 pub framed-spec : {M : Type 1} → statement M
 framed-spec = tie.close (tie.spec marked-requires marked-requires-2 marked-requires-3 returns)
