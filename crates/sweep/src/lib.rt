@@ -185,11 +185,11 @@ pub fn is_quiet(p: Processor, flags: &[u8]) -> bool
     let base = p.taken;
     let front = p.front;
     let machine = p.machine;
-    let n = flags.len();
-    if 4096 < n {
+    let more = flags.len();
+    if 4096 < more {
         return false;
     }
-    let t = base as usize + n;
+    let t = base as usize + more;
     if 32768 < t {
         return false;
     }
