@@ -9,7 +9,7 @@ use lib.Dec.{eqb}
 use lib.ListN.{length, getD, set, length-set}
 use lib.Seq.{getD-set-same, getD-set-other}
 use lib.Ieee.{Float, nan}
-use borrow.Author.Tests.{eqb-true}
+use borrow.Author.Tests.{ne-eqb}
 use Rattle.rules.specs.declared.Marks.{Marks}
 use Rattle.rules.specs.declared.Estimate.{Estimate}
 use Rattle.rules.specs.declared.Estimate.the-variants.{Lone, Average}
@@ -228,18 +228,11 @@ same-place f m w v f′ m′ w′ v′ i k p q r s =
     λ z.
     cond (eqb (p z) none) idle (record { slot = Open (record { f1 = record { 0 = p z }; marks = marksOf (q z); word = r z; reference = s z }) })
 
-pub not-eqb : (a b : ℕ) → (a ≡ b → ⊥) → eqb a b ≡ false
-not-eqb a b h = go (eqb a b) refl
-  where
-    go : (c : Bool) → eqb a b ≡ c → c ≡ false
-    go false e = refl
-    go true e = absurd (h (eqb-true a b e))
-
 pub open-there : (f m w : List ℕ) (v : List Float) (j : ℕ) → (getD f j 0 ≡ none → ⊥)
     → placeIn f m w v j
     ≡ record { slot = Open (record { f1 = record { 0 = getD f j 0 }; marks = marksOf (getD m j 0); word = wordAt w j; reference = referenceAt w v j }) }
 unfolding placeIn
-open-there f m w v j h = rw (not-eqb (getD f j 0) none h)
+open-there f m w v j h = rw (ne-eqb (getD f j 0) none h)
 
 -- an F1 that is that of a reply
 pub open-place : (f m w : List ℕ) (v : List Float) (j : ℕ) → getD f j 0 < none

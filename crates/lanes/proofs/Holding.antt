@@ -7,7 +7,7 @@ use mathlib.Core.List.{List, [], _∷_, _++_}
 use lib.Dec.{leb, ltb, eqb}
 use lib.ListN.{length, getD, length-append}
 use lib.Ieee.{Float, nan}
-use borrow.Author.Tests.{leb-true, ltb-true, ltb-false, eqb-true, eqb-false}
+use borrow.Author.Tests.{ltb-true, ltb-false, eqb-true, eqb-false, lt-leb}
 use Rattle.rules.specs.declared.Reply.{Reply}
 use Rattle.rules.specs.declared.Slot.the-variants.{Open}
 use Rattle.rules.specs.declared.Estimate.the-variants.{Lone}
@@ -141,28 +141,16 @@ military-f1 : (u : ℕ) (r : Reply) → military u r ≡ militaryFrom u (f1 r)
 unfolding military militaryFrom
 military-f1 u r = refl
 
-leb-off : (a b : ℕ) → b < a → leb a b ≡ false
-leb-off a b h = go (leb a b) refl
-  where
-    go : (c : Bool) → leb a b ≡ c → c ≡ false
-    go false e = refl
-    go true e = absurd (omega (arith, leb-true a b e))
-
 inside-none : (u : ℕ) → u < 70000 → insideFrom u none ≡ false
 unfolding insideFrom position
-inside-none u h = rw (leb-off none (u + 1) (omega arith))
+inside-none u h = rw (lt-leb none (u + 1) (omega arith))
 
 military-none : (u : ℕ) → u < 70000 → militaryFrom u none ≡ false
 unfolding militaryFrom
-military-none u h = rw (leb-off (none + 203) u (omega arith))
+military-none u h = rw (lt-leb (none + 203) u (omega arith))
 
 covers-none : (u : ℕ) → u < 70000 → coversFrom none u ≡ false
 covers-none u h = not-covered none u (omega arith)
-
--- of the four columns
-or-end : (a : Bool) → (a || false) ≡ a
-or-end true = refl
-or-end false = refl
 
 any-of : (p : Reply → Bool) (P : ℕ → Bool) → ((r : Reply) → p r ≡ P (f1 r)) → P none ≡ false → (x : Rows) → anyIn p (placesOf x) ≡ anyOf P (x .f1)
 unfolding placesIn
@@ -187,7 +175,7 @@ any-military-of u h x = any-of (military u) (militaryFrom u) (military-f1 u) (mi
 
 phantom-none : (u : ℕ) (b : Bool) → u < 70000 → phantomFrom b none u ≡ false
 unfolding phantomFrom
-phantom-none u true h = rw (leb-off (none + 10) u (omega arith))
+phantom-none u true h = rw (lt-leb (none + 10) u (omega arith))
 phantom-none u false h = refl
 
 -- by F1 and the marks

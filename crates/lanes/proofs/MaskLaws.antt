@@ -4,37 +4,14 @@ use native.Mathlib.Omega.{arith}
 use mathlib.Core.Path.{_≡_, refl, sym, ap, _∙_}
 use mathlib.Core.Bool.{Bool, true, false, not, _&&_, cond}
 use lib.Dec.{leb, ltb, eqb}
-use borrow.Author.Tests.{ltb-true, ltb-false, leb-true, leb-false, eqb-true, eqb-false}
+use borrow.Author.Tests.{ltb-true, ltb-false, leb-true, leb-false, eqb-true, eqb-false, le-leb, lt-leb, ne-eqb}
 use Rattle.rules.specs.Replies.{position, isPosition}
 use Rattle.rules.proofs.Truth.{impossible, and-left, and-right}
 use Rattle.edges.specs.Words.{bit, Holds, Slid}
 use Rattle.edges.proofs.BitLaws.{zero-bit}
 use Rattle.lanes.specs.Masks.{coversFrom, phantomFrom, coverWord, phantomWord, Across, CoverMask, PhantomMask}
 
--- ---- tests
-
-is-true : (a b : ℕ) → a ≤ b → leb a b ≡ true
-is-true a b h = go (leb a b) refl
-  where
-    go : (c : Bool) → leb a b ≡ c → c ≡ true
-    go true e = refl
-    go false e = absurd (omega (arith, leb-false a b e))
-
-is-false : (a b : ℕ) → b < a → leb a b ≡ false
-is-false a b h = go (leb a b) refl
-  where
-    go : (c : Bool) → leb a b ≡ c → c ≡ false
-    go false e = refl
-    go true e = absurd (omega (arith, leb-true a b e))
-
-not-is : (a b : ℕ) → (a ≡ b → ⊥) → eqb a b ≡ false
-not-is a b h = go (eqb a b) refl
-  where
-    go : (c : Bool) → eqb a b ≡ c → c ≡ false
-    go false e = refl
-    go true e = absurd (h (eqb-true a b e))
-
--- all numbers below n pass
+-- ---- all numbers below n pass
 below : ℕ → (ℕ → Bool) → Bool
 below zero p = true
 below (suc n) p = p n && below n p
@@ -61,10 +38,10 @@ same-is false false h = refl
 -- ---- the words, by the number that a match has found
 
 pub cover-rest : (k : ℕ) → (k ≡ 1 → ⊥) → (k ≡ 2 → ⊥) → (k ≡ 3 → ⊥) → (k ≡ 4 → ⊥) → 0 ≡ coverWord k
-cover-rest k a b c d = rw (not-is k 1 a, not-is k 2 b, not-is k 3 c, not-is k 4 d)
+cover-rest k a b c d = rw (ne-eqb k 1 a, ne-eqb k 2 b, ne-eqb k 3 c, ne-eqb k 4 d)
 
 pub phantom-rest : (k : ℕ) → (k ≡ 1 → ⊥) → (k ≡ 2 → ⊥) → (k ≡ 3 → ⊥) → 0 ≡ phantomWord k
-phantom-rest k a b c = rw (not-is k 1 a, not-is k 2 b, not-is k 3 c)
+phantom-rest k a b c = rw (ne-eqb k 1 a, ne-eqb k 2 b, ne-eqb k 3 c)
 
 -- ---- two words in a row
 
@@ -143,10 +120,10 @@ cover-tried = refl
 
 far-cover : (k : ℕ) → 5 ≤ k → coverWord k ≡ 0
 far-cover k h =
-    rw (not-is k 1 (λ e. omega arith), not-is k 2 (λ e. omega arith), not-is k 3 (λ e. omega arith), not-is k 4 (λ e. omega arith))
+    rw (ne-eqb k 1 (λ e. omega arith), ne-eqb k 2 (λ e. omega arith), ne-eqb k 3 (λ e. omega arith), ne-eqb k 4 (λ e. omega arith))
 
 not-position : (k : ℕ) → 18 ≤ k → isPosition k ≡ false
-not-position k h = rw (is-false k 14 (omega arith), not-is k 17 (λ e. omega arith))
+not-position k h = rw (lt-leb k 14 (omega arith), ne-eqb k 17 (λ e. omega arith))
 
 and-none : (a : Bool) → (a && false) ≡ false
 and-none true = refl
@@ -178,16 +155,12 @@ position-cond : (b : Bool) (k : ℕ) → isPosition (cond b k 15) ≡ (b && isPo
 position-cond true k = refl
 position-cond false k = refl
 
-and-assoc : (a b c : Bool) → ((a && b) && c) ≡ (a && (b && c))
-and-assoc true b c = refl
-and-assoc false b c = refl
-
 leb-same : (a b c d : ℕ) → (a ≤ b → c ≤ d) → (c ≤ d → a ≤ b) → leb a b ≡ leb c d
 leb-same a b c d f g = go (leb a b) refl
   where
     go : (x : Bool) → leb a b ≡ x → x ≡ leb c d
-    go true e = sym (is-true c d (f (leb-true a b e)))
-    go false e = sym (is-false c d (not-yet (leb c d) refl))
+    go true e = sym (le-leb c d (f (leb-true a b e)))
+    go false e = sym (lt-leb c d (not-yet (leb c d) refl))
       where
         not-yet : (y : Bool) → leb c d ≡ y → d < c
         not-yet true q = absurd (omega (arith, g (leb-true c d q), leb-false a b e))
@@ -203,10 +176,10 @@ covers-as q u n z = go (leb 64 n) refl
     go true e =
         let d : u + 1 - q ≡ n - 64 = omega (arith, leb-true 64 n e) in
         position-cond (leb q (u + 1) && leb ((u + 1 - q) % 12) 2) ((u + 1 - q) / 12)
-        ∙ rw (is-true q (u + 1) (omega (arith, leb-true 64 n e)), d)
+        ∙ rw (le-leb q (u + 1) (omega (arith, leb-true 64 n e)), d)
     go false e =
         position-cond (leb q (u + 1) && leb ((u + 1 - q) % 12) 2) ((u + 1 - q) / 12)
-        ∙ rw (is-false q (u + 1) (omega (arith, leb-false 64 n e)))
+        ∙ rw (lt-leb q (u + 1) (omega (arith, leb-false 64 n e)))
 
 covered-bit : (q u n : ℕ) → q + n ≡ u + 65 → rowBit coverWord n ≡ coversFrom q u
 covered-bit q u n z = cover-all n ∙ sym (covers-as q u n z)
@@ -214,7 +187,7 @@ covered-bit q u n z = cover-all n ∙ sym (covers-as q u n z)
 -- what lies too far off is not covered
 pub not-covered : (q u : ℕ) → u + 1 < q → coversFrom q u ≡ false
 unfolding coversFrom position
-not-covered q u h = rw (is-false q (u + 1) (omega arith))
+not-covered q u h = rw (lt-leb q (u + 1) (omega arith))
 
 pub cover-mask-law : (q t g a b x : ℕ) → q + 177 ≤ t → g ≡ t - q - 177 → a ≡ coverWord (g / 64) → b ≡ coverWord (g / 64 + 1) → Across a b (g % 64) x → CoverMask q t x
 cover-mask-law q t g a b x h e ea eb s =
@@ -237,13 +210,13 @@ unfolding below phantomTried
 phantom-tried = refl
 
 far-phantom : (k : ℕ) → 4 ≤ k → phantomWord k ≡ 0
-far-phantom k h = rw (not-is k 1 (λ e. omega arith), not-is k 2 (λ e. omega arith), not-is k 3 (λ e. omega arith))
+far-phantom k h = rw (ne-eqb k 1 (λ e. omega arith), ne-eqb k 2 (λ e. omega arith), ne-eqb k 3 (λ e. omega arith))
 
 phantom-far : (n : ℕ) → 320 ≤ n → rowBit phantomWord n ≡ phantomAt n
 unfolding rowBit phantomAt
 phantom-far n h =
     ap (λ (w : ℕ). bit w (n % 64)) (far-phantom (n / 64) (omega arith)) ∙ zero-bit (n % 64)
-    ∙ sym (rw (is-true 75 n (omega arith), is-false n 235 (omega arith)))
+    ∙ sym (rw (le-leb 75 n (omega arith), lt-leb n 235 (omega arith)))
 
 phantom-all : (n : ℕ) → rowBit phantomWord n ≡ phantomAt n
 unfolding phantomTried
@@ -260,12 +233,12 @@ phantoms-as q u n z = go (leb 75 n) refl
     go : (c : Bool) → leb 75 n ≡ c → (leb (q + 10) u && leb u (q + 170) && leb ((u + 2 - q) % 12) 4) ≡ (c && leb n 235 && leb ((n - 63) % 12) 4)
     go true e =
         let d : u + 2 - q ≡ n - 63 = omega (arith, leb-true 75 n e) in
-        rw (is-true (q + 10) u (omega (arith, leb-true 75 n e)), leb-same u (q + 170) n 235 (λ l. omega arith) (λ l. omega arith), d)
-    go false e = rw (is-false (q + 10) u (omega (arith, leb-false 75 n e)))
+        rw (le-leb (q + 10) u (omega (arith, leb-true 75 n e)), leb-same u (q + 170) n 235 (λ l. omega arith) (λ l. omega arith), d)
+    go false e = rw (lt-leb (q + 10) u (omega (arith, leb-false 75 n e)))
 
 not-phantom : (q u : ℕ) → u + 1 < q → phantomFrom true q u ≡ false
 unfolding phantomFrom
-not-phantom q u h = rw (is-false (q + 10) u (omega arith))
+not-phantom q u h = rw (lt-leb (q + 10) u (omega arith))
 
 pub phantom-mask-law : (q t g a b x : ℕ) (s : Bool) → s ≡ true → q + 177 ≤ t → g ≡ t - q - 177 → a ≡ phantomWord (g / 64) → b ≡ phantomWord (g / 64 + 1) → Across a b (g % 64) x
     → PhantomMask q s t x
@@ -289,8 +262,8 @@ unfolding coversFrom position
 covered-early q u h = go (eqb (q - u) 1) refl
   where
     go : (c : Bool) → eqb (q - u) 1 ≡ c → c ≡ isPosition (cond (leb q (u + 1) && leb ((u + 1 - q) % 12) 2) ((u + 1 - q) / 12) 15)
-    go true e = let d : u + 1 - q ≡ 0 = omega (arith, eqb-true (q - u) 1 e) in rw (is-true q (u + 1) (omega (arith, eqb-true (q - u) 1 e)), d)
-    go false e = rw (is-false q (u + 1) (omega (arith, eqb-false (q - u) 1 e)))
+    go true e = let d : u + 1 - q ≡ 0 = omega (arith, eqb-true (q - u) 1 e) in rw (le-leb q (u + 1) (omega (arith, eqb-true (q - u) 1 e)), d)
+    go false e = rw (lt-leb q (u + 1) (omega (arith, eqb-false (q - u) 1 e)))
 
 pub covered-late : (q u d : ℕ) → q ≤ u → d ≡ u - q → 255 < d → false ≡ coversFrom q u
 covered-late q u d h e l = sym (covers-as q u (d + 65) (omega arith) ∙ sym (cover-all (d + 65)) ∙ cover-off)

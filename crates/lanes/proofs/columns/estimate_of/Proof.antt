@@ -1,4 +1,4 @@
-use Rattle.lanes.proofs.ColumnLaws.{not-eqb}
+use borrow.Author.Tests.{ne-eqb}
 use Rattle.lanes.proofs.columns.estimate_of.Statement.{statement}
 use Rattle.lanes.proofs.columns.estimate_of.Tie as tie
 use Rattle.lanes.proofs.columns.estimate_of.Reads as reads
@@ -10,7 +10,7 @@ returns c = rw (c .if1 .taken)
 
 -- src/columns.rt:51:1
 returns-2 : tie.Need-returns-2
-returns-2 c = rw (not-eqb _ _ (c .if1 .left))
+returns-2 c = rw (ne-eqb _ _ (c .if1 .left))
 
 pub estimate-of-spec : {M : Type 1} → statement M
 estimate-of-spec = tie.close (tie.spec returns returns-2)

@@ -1,4 +1,4 @@
-use Rattle.lanes.proofs.ColumnLaws.{not-eqb}
+use borrow.Author.Tests.{ne-eqb}
 use native.Mathlib.Omega.{arith}
 use mathlib.Core.Path.{refl, sym, ap, _∙_}
 use borrow.Author.Needs.{needs}
@@ -21,7 +21,7 @@ element-copy-out-if2 c = search needs
 
 -- src/steps.rt:229:9
 returns-2 : tie.Need-returns-2
-returns-2 c = (sym (rw (not-eqb _ _ (c .before .before .if1 .left), c .if2 .taken)), omega arith)
+returns-2 c = (sym (rw (ne-eqb _ _ (c .before .before .if1 .left), c .if2 .taken)), omega arith)
 
 -- src/steps.rt:231:8
 element-copy-out-if3 : tie.Need-element-copy-out-if3
@@ -29,11 +29,11 @@ element-copy-out-if3 c = search needs
 
 -- src/steps.rt:232:9
 returns-3 : tie.Need-returns-3
-returns-3 c = (sym (rw (not-eqb _ _ (c .before .before .before .before .if1 .left), not-eqb _ _ (c .before .before .if2 .left), c .if3 .taken)), omega arith)
+returns-3 c = (sym (rw (ne-eqb _ _ (c .before .before .before .before .if1 .left), ne-eqb _ _ (c .before .before .if2 .left), c .if3 .taken)), omega arith)
 
 -- src/steps.rt:221:1
 returns-4 : tie.Need-returns-4
-returns-4 c = (sym (rw (not-eqb _ _ (c .before .before .before .before .if1 .left), not-eqb _ _ (c .before .before .if2 .left), not-eqb _ _ (c .if3 .left))), omega arith)
+returns-4 c = (sym (rw (ne-eqb _ _ (c .before .before .before .before .if1 .left), ne-eqb _ _ (c .before .before .if2 .left), ne-eqb _ _ (c .if3 .left))), omega arith)
 
 pub free-column-spec : {M : Type 1} → statement M
 free-column-spec =
