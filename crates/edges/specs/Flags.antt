@@ -12,7 +12,7 @@ use Rattle.edges.specs.Words.{bit}
 pub record BadFrom (f : List ℕ) (o : ℕ) (r : Bool) : Type 0 where
   pub is : r ≡ any bad (drop o f)
 
--- r is true exactly if one of the 64 flag bytes from o on is bad: then, or if one behind them is, one from o on is
+-- a flag byte from o on is bad if r is true, or if one behind the 64 from o on is
 pub record BadBlock (f : List ℕ) (o : ℕ) (r : Bool) : Type 0 where
   pub is : any bad (drop o f) ≡ r || any bad (drop (o + 64) f)
 
