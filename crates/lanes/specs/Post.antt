@@ -80,14 +80,19 @@ pub record DropIfPost (c : Bool) (x : Rows) (j : ℕ) (x′ : Rows) (r : ℕ) : 
 
 -- ---- steps
 
--- the four places are written, with their words of ticks
-pub record Loaded (f : Places) (t : ℕ) (x : Rows) : Type 0 where
+-- the four places are written; the words of ticks are apart
+pub record Loaded (f : Places) (x : Rows) : Type 0 where
   pub sized : Sized x
   pub places : placesOf x ≡ f
-  pub masked : AllMasked t x
 
-pub record LoadPost (x : Rows) (f : Places) (t : ℕ) (x′ : Rows) : Type 0 where
-  pub result : Sized x → FitsPlace (f .p0) → FitsPlace (f .p1) → FitsPlace (f .p2) → FitsPlace (f .p3) → Loaded f t x′
+pub record LoadPost (f m w : List ℕ) (v : List Float) (g : Places) (f′ m′ w′ : List ℕ) (v′ : List Float) : Type 0 where
+  pub result : (on : List ℕ) → Sized (record { f1 = f; marks = m; row = w; level = v; on = on }) → FitsPlace (g .p0) → FitsPlace (g .p1) → FitsPlace (g .p2) → FitsPlace (g .p3)
+      → Loaded g (record { f1 = f′; marks = m′; row = w′; level = v′; on = on })
+
+-- the words of the four columns are written
+pub record MasksPost (f m on : List ℕ) (t : ℕ) (on′ : List ℕ) : Type 0 where
+  pub size : length on ≡ 8 → length on′ ≡ 8
+  pub masked : length on ≡ 8 → (w : List ℕ) (v : List Float) → AllMasked t (record { f1 = f; marks = m; row = w; level = v; on = on′ })
 
 -- the columns are still four, and their words those of their places
 pub record Kept (x x′ : Rows) : Type 0 where

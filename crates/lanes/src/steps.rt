@@ -9,7 +9,7 @@ ghost use Rattle.edges.specs.Words.{bit};
 ghost use Rattle.rules.specs.Settings.{standard};
 ghost use Rattle.machine.specs.Places.{any3 as any3′};
 ghost use Rattle.lanes.specs.Masks.{coversFrom, MaskPost};
-ghost use Rattle.lanes.specs.Post.{LoadPost, HandPost, DropIfPost, PurgePost, OpenPost, FramePost, BracketPost, HearPost, HearIfPost, DealPost, anyOf, insideFrom, militaryFrom, freeIn, twiceIn, whichOf};
+ghost use Rattle.lanes.specs.Post.{LoadPost, MasksPost, HandPost, DropIfPost, PurgePost, OpenPost, FramePost, BracketPost, HearPost, HearIfPost, DealPost, anyOf, insideFrom, militaryFrom, freeIn, twiceIn, whichOf};
 use super::columns::drop_column;
 use super::columns::place_at;
 use super::columns::put_place;
@@ -57,23 +57,27 @@ fn put_masks(f1: &[u32; 4], marks: &[u16; 4], on: &mut [u64; 8], j: usize, t: u3
     on[4 + j] = y;
 }
 
-// Writes the four places to the columns, for the block with which t ticks are taken.
+// Writes the four places to the columns.
 pub fn load(
     f1: &mut [u32; 4],
     marks: &mut [u16; 4],
     row: &mut [u16; 24],
     level: &mut [f64; 4],
-    on: &mut [u64; 8],
     f: Places,
-    t: u32,
 )
-    requires { ⌜ t < 65000 ⌝ }
-    ensures { λ _. ⌜ LoadPost (record { f1 = now (f1 .entry); marks = now (marks .entry); row = now (row .entry); level = now (level .entry); on = now (on .entry) }) f t (record { f1 = now (f1 .exit); marks = now (marks .exit); row = now (row .exit); level = now (level .exit); on = now (on .exit) }) ⌝ }
+    ensures { λ _. ⌜ LoadPost (now (f1 .entry)) (now (marks .entry)) (now (row .entry)) (now (level .entry)) f (now (f1 .exit)) (now (marks .exit)) (now (row .exit)) (now (level .exit)) ⌝ }
 {
     put_place(f1, marks, row, level, 0, f.p0);
     put_place(f1, marks, row, level, 1, f.p1);
     put_place(f1, marks, row, level, 2, f.p2);
     put_place(f1, marks, row, level, 3, f.p3);
+}
+
+// Writes the words of the four columns, for the block with which t ticks are taken.
+pub fn mask(f1: &[u32; 4], marks: &[u16; 4], on: &mut [u64; 8], t: u32)
+    requires { ⌜ t < 65000 ⌝ }
+    ensures { λ _. ⌜ MasksPost (now (f1 .entry)) (now (marks .entry)) (now (on .entry)) t (now (on .exit)) ⌝ }
+{
     put_masks(f1, marks, on, 0, t);
     put_masks(f1, marks, on, 1, t);
     put_masks(f1, marks, on, 2, t);
@@ -83,7 +87,7 @@ pub fn load(
 // ---- handing out
 
 // Hands out the replies that are no longer open at u, in order of F1, and removes them. The place in the buffer behind them.
-fn hand_out(
+pub fn hand_out(
     f1: &mut [u32; 4],
     marks: &mut [u16; 4],
     row: &mut [u16; 24],

@@ -6,6 +6,7 @@ use mathlib.Core.List.{List, [], _∷_, _++_, append-assoc}
 use lib.ListN.{length, length-append}
 use Rattle.rules.specs.declared.Reply.{Reply}
 use Rattle.rules.specs.declared.Machine.{Machine}
+use Rattle.rules.specs.declared.Counts.{Counts}
 use Rattle.rules.specs.Settings.{standard}
 use Rattle.rules.specs.Samples.{Trace, _⧺_}
 use Rattle.rules.specs.Edges.{edgeAt}
@@ -14,6 +15,7 @@ use Rattle.rules.specs.Records.{records}
 use Rattle.rules.specs.Calls.{fresh, handed}
 use Rattle.rules.proofs.Joining.{assoc, fresh-join, handed-fresh, handed-done, after-known, records-append, records-length}
 use Rattle.machine.specs.Places.{machineOf}
+use Rattle.lanes.specs.Columns.{Rows, Sized, machineAt}
 use Rattle.records.specs.declared.Retired.{Retired}
 use Rattle.rules.specs.Buffers.{over-at}
 use Rattle.rules.proofs.Buffers.{over-at-more}
@@ -21,9 +23,11 @@ use Rattle.edges.specs.declared.packing.Planes.{Planes}
 use Rattle.sweep.specs.declared.front.Front.{Front}
 use Rattle.sweep.specs.declared.span.Span.{Span}
 use Rattle.sweep.specs.declared.blocks.Run.{Run}
+use Rattle.sweep.specs.declared.blocks.Stand.{Stand}
 use Rattle.sweep.specs.State.{padded, frontOf}
-use Rattle.sweep.specs.Steps.{Low, AdvancePost, Spanned, SpanPost, stateAt, Bounded, Reads, Shows, Gives, WorkPost, Fed, Next, BlockPost}
+use Rattle.sweep.specs.Steps.{Low, AdvancePost, Spanned, SpanPost, stateAt, Bounded, Reads, Shows, Gives, WorkPost, Fed, Next, BlockPost, runOf}
 use Rattle.sweep.proofs.Answers.{standard-allowed}
+use Rattle.sweep.proofs.Working.{Works}
 
 -- the replies that the block Q adds to those done
 block-done : (R Q : Trace) → length (R .flags) ≡ length (R .values)
@@ -34,8 +38,8 @@ block-done R Q a =
     ∙ ap {B = List Reply} (λ z. z ++ fresh standard R Q)
     (handed-done standard standard-allowed R ∙ ap (λ (s : State). s .done) (sym (after-known standard standard-allowed R Q a)))
 
-module _ (o : Run) (x : Planes) (r t : ℕ) (recent : List ℕ) (base : ℕ) (values : List ℕ) (b : List ℕ) (f : Front) (s : Span) (v : Retired) (b′ : List ℕ)
-    (ad : AdvancePost (o .front) x r f) (sp : SpanPost f s) (wk : WorkPost (o .machine) s r t recent base values (o .at) b v b′) where
+module _ (E : Type 0) (o : Run) (x : Planes) (r t : ℕ) (recent : List ℕ) (base : ℕ) (values : List ℕ) (b : List ℕ) (f : Front) (s : Span) (v : Retired) (b′ : List ℕ)
+    (ad : AdvancePost (o .front) x r f) (sp : SpanPost f s) (wk : Works E (o .machine) s r t recent base values (o .at) b v b′) where
   module _ (T P Q : Trace) (b₀ : List ℕ) (fed : Fed T P b₀ o b) (lr : length (Q .flags) ≡ r) (low : Low (Q .flags) x) (nx : Next T P Q t recent base values b₀ b) where
     alike-R : length (T .flags ++ P .flags) ≡ length (T .values ++ P .values)
     alike-R = omega (arith, nx .alike, nx .alike-piece, length-append (T .flags) (P .flags), length-append (T .values) (P .values))
@@ -66,8 +70,8 @@ module _ (o : Run) (x : Planes) (r t : ℕ) (recent : List ℕ) (base : ℕ) (va
     lengths : length (fresh standard T (P ⧺ Q)) ≡ length (fresh standard T P) + length (fresh standard (T ⧺ P) Q)
     lengths = ap length joined ∙ length-append (fresh standard T P) (fresh standard (T ⧺ P) Q)
 
-    gives : Gives (fresh standard (T ⧺ P) Q) (stateAt ((T ⧺ P) ⧺ Q) (t - 178)) (o .at) b v b′
-    gives =
+    worked : Gives (fresh standard (T ⧺ P) Q) (stateAt ((T ⧺ P) ⧺ Q) (t - 178)) (o .at) b v b′ × E
+    worked =
         let z : t - r - 178 ≡ length (T .flags ++ P .flags) - 178 = omega (arith, ticks-R) in
         wk .result ((T ⧺ P) ⧺ Q) shows (omega (arith, ticks-R))
         (fed .machine ∙ ap machineOf (sym (after-known standard standard-allowed (T ⧺ P) Q alike-R)) ∙ ap (λ (c : ℕ). machineOf (stateAt ((T ⧺ P) ⧺ Q) c)) (sym z))
@@ -77,7 +81,13 @@ module _ (o : Run) (x : Planes) (r t : ℕ) (recent : List ℕ) (base : ℕ) (va
         ∙ ap (λ (c : ℕ). stateAt ((T ⧺ P) ⧺ Q) c .done ++ fresh standard (T ⧺ P) Q) (sym z))
         (omega (arith, fed .place, lengths, nx .room, nx .same))
 
-    fed-next : Fed T (P ⧺ Q) b₀ (record { front = f; machine = v .machine; at = v .at }) b′
+    gives : Gives (fresh standard (T ⧺ P) Q) (stateAt ((T ⧺ P) ⧺ Q) (t - 178)) (o .at) b v b′
+    gives = worked .0
+
+    pub fed-known : E
+    fed-known = worked .1
+
+    pub fed-next : Fed T (P ⧺ Q) b₀ (record { front = f; machine = v .machine; at = v .at }) b′
     fed-next =
         let e = append-assoc (T .flags) (P .flags) (Q .flags) in
         record {
@@ -94,5 +104,19 @@ module _ (o : Run) (x : Planes) (r t : ℕ) (recent : List ℕ) (base : ℕ) (va
               ∙ ap (λ (z : List ℕ). over-at z 0 b₀) (sym (records-append (fresh standard T P) (fresh standard (T ⧺ P) Q)) ∙ ap records (sym joined));
         }
 
-  pub block-law : BlockPost o x r t recent base values b (record { front = f; machine = v .machine; at = v .at }) b′
-  block-law = record { same = wk .keeps .same; inside = wk .keeps .inside; result = fed-next }
+-- the same with the places as columns
+pub block-law : (x : Rows) (o : Stand) (p : Planes) (r t : ℕ) (recent : List ℕ) (base : ℕ) (values : List ℕ) (b : List ℕ) (f : Front) (s : Span) (x′ : Rows) (c′ : Counts) (e : ℕ) (b′ : List ℕ)
+    → AdvancePost (o .front) p r f → SpanPost f s → WorkPost x (o .counts) s r t recent base values (o .at) b x′ c′ e b′
+    → BlockPost x o p r t recent base values b x′ (record { front = f; counts = c′; at = e }) b′
+block-law x o p r t recent base values b f s x′ c′ e b′ ad sp wk =
+    record {
+      same = wk .keeps .same;
+      result = λ T P Q b₀ fed lr low nx.
+          let v : Retired = record { machine = machineAt x′ c′; at = e } in
+          let w : Works (Sized x′) (machineAt x (o .counts)) s r t recent base values (o .at) b v b′ =
+          record { keeps = wk .keeps; result = λ T sh le is l d room. let y = wk .result (fed .sized) T sh le is l d room in (y .gives, y .sized) } in
+          record {
+            fed = fed-next (Sized x′) (runOf x o) p r t recent base values b f s v b′ ad sp w T P Q b₀ (fed .fed) lr low nx;
+            sized = fed-known (Sized x′) (runOf x o) p r t recent base values b f s v b′ ad sp w T P Q b₀ (fed .fed) lr low nx;
+          };
+    }

@@ -10,27 +10,26 @@ use lib.Dec.{ltb}
 use lib.ListN.{length, getD, replicate, length-append, length-replicate}
 use borrow.Author.Tests.{ltb-false, le-ltb}
 use Rattle.rules.specs.declared.Reply.{Reply}
-use Rattle.rules.specs.declared.Slot.{Slot}
-use Rattle.rules.specs.declared.Slot.the-variants.{Idle, Open}
 use Rattle.rules.specs.Settings.{standard}
 use Rattle.rules.specs.Lists.{All}
 use Rattle.rules.specs.Samples.{Trace, _⧺_, A, P, N, M, odd, sweepLimit}
 use Rattle.rules.specs.Replies.{f1, ended}
 use Rattle.rules.specs.Calls.{takeRoom, fresh}
 use Rattle.rules.proofs.Truth.{impossible}
-use Rattle.machine.specs.Places.{testSlot}
+use Rattle.lanes.specs.Columns.{Rows}
 use Rattle.edges.specs.declared.packing.Planes.{Planes}
 use Rattle.edges.specs.Words.{bit, HoldsPart}
 use Rattle.edges.specs.Packing.{PackedPart}
 use Rattle.edges.specs.Flags.{Bare}
 use Rattle.edges.proofs.BitLaws.{zero-bit}
 use Rattle.sweep.specs.declared.Processor.{Processor}
-use Rattle.sweep.specs.declared.blocks.Run.{Run}
+use Rattle.sweep.specs.declared.front.Front.{Front}
+use Rattle.sweep.specs.declared.blocks.Stand.{Stand}
 use Rattle.sweep.specs.State.{running, runningProcessor, processorOf, frontOf, recentOf, Made}
-use Rattle.sweep.specs.Steps.{still, NoneDue, Stays, Fed, Begins, FeedPost}
-use Rattle.sweep.specs.Post.{Rests, QuietPost}
+use Rattle.sweep.specs.Steps.{still, Waits, Stays, runOf, FedColumns, BlocksPost}
+use Rattle.sweep.specs.Post.{Rests, Standing, QuietPost}
 use Rattle.sweep.proofs.Staying.{stays-law}
-use Rattle.sweep.proofs.Streaming.{Feeding, feed-start, feed-next, feed-end}
+use Rattle.sweep.proofs.Streaming.{Feeding, feed-start, feed-next, feed-end, enters-piece}
 use Rattle.sweep.proofs.Operations.{mode-of, azimuth-of, taken-of, front-of, recent-of, machine-of}
 
 -- ---- one tick
@@ -55,33 +54,33 @@ tick-none flags i e =
     part : (F : ℕ → Bool) → ((m : ℕ) → m < 1 → F (i + m) ≡ false) → HoldsPart F i 1 0
     part F f = record { below = omega arith; at = λ m l. zero-bit m ∙ sym (f m l); rest = λ m l. zero-bit m }
 
--- a reply that is not due at u was not due before
-not-before : (s : Slot) (u v : ℕ) → v ≤ u → testSlot (ended u) s ≡ false → testSlot (ended v) s ≡ false
-unfolding ended
-not-before Idle u v h e = refl
-not-before (Open r) u v h e = le-ltb (f1 r + 205) v (omega (arith, ltb-false (f1 r + 205) u e))
-
 -- ---- a piece
 
-module _ (o : Run) (recent : List ℕ) (base : ℕ) (flags values b : List ℕ) (bare : (m : ℕ) → m < length flags → getD flags m 0 ≡ 0) (words : still (o .front) ≡ true)
-    (waits : NoneDue (o .machine) (base + length flags)) where
-  stays : (t : ℕ) → t ≤ base + length flags → Stays o none t
+module _ (x : Rows) (o : Stand) (recent : List ℕ) (base : ℕ) (flags values b : List ℕ) (bare : (m : ℕ) → m < length flags → getD flags m 0 ≡ 0) (words : still (o .front) ≡ true)
+    (waits : Waits (x .f1) (base + length flags)) where
+  -- a reply that is not due at the end was not due before
+  stays : (t : ℕ) → t ≤ base + length flags → Stays (o .front) (x .f1) none t
+  unfolding ended
   stays t h =
       record {
         planes = refl;
         words = words;
-        waits = record { open-still = λ l. not-before (o .machine .places .p0 .slot) (base + length flags - 179) (t - 179) (omega arith) (waits .open-still (omega arith)) };
+        waits =
+            record {
+              open-still = λ l r e.
+                  le-ltb (f1 r + 205) (t - 179) (omega (arith, ltb-false (f1 r + 205) (base + length flags - 179) (waits .open-still (omega arith) r e)));
+            };
       }
 
-  resting : (i : ℕ) → i ≤ length flags → Feeding o recent base flags values b b o i
-  resting zero h = feed-start o recent base flags values b
+  resting : (i : ℕ) → i ≤ length flags → Feeding x o recent base flags values b b x o i
+  resting zero h = feed-start x o recent base flags values b
   resting (suc i) h =
-      subst (λ (k : ℕ). Feeding o recent base flags values b b o k) (add-one i)
-      (feed-next o recent base flags values b b o i 1 (base + (i + 1)) none o b (omega arith) refl (tick-none flags i (bare i (omega arith)))
-      (stays-law o none 1 (base + (i + 1)) recent base values b (omega arith) (stays (base + (i + 1)) (omega arith))) (resting i (omega arith)))
+      subst (λ (k : ℕ). Feeding x o recent base flags values b b x o k) (add-one i)
+      (feed-next x o recent base flags values b b x o i 1 (base + (i + 1)) none x o b (omega arith) refl (tick-none flags i (bare i (omega arith)))
+      (stays-law x o none 1 (base + (i + 1)) recent base values b (omega arith) (stays (base + (i + 1)) (omega arith))) (resting i (omega arith)))
 
-  pub rests-law : FeedPost o recent base flags values b o b
-  rests-law = feed-end o recent base flags values b b o (length flags) (omega arith) (resting (length flags) (omega arith))
+  pub rests-law : BlocksPost x o recent base flags values b x o b
+  rests-law = feed-end x o recent base flags values b b x o (length flags) (omega arith) (resting (length flags) (omega arith))
 
 -- ---- the take of such a piece
 
@@ -89,26 +88,30 @@ no-replies : (l : List Reply) → 0 ≡ 18 * length l → l ≡ []
 no-replies [] e = refl
 no-replies (r ∷ l) e = absurd (omega arith)
 
-module _ (p : Processor) (flags : List ℕ) (limit : p .taken + length flags ≤ sweepLimit) (r : Bool) (bare : Bare flags r) (is : r ≡ true) (words : still (p .front) ≡ true)
-    (waits : NoneDue (p .machine) (p .taken + length flags)) where
-  module _ (mode azimuth : ℕ) (T : Trace) (values : List ℕ) (made : Made (running mode azimuth T) p) (alike : length flags ≡ length values) (bytes : All (λ v. v ≤ 255) values) where
+module _ (f : Front) (f1s : List ℕ) (base : ℕ) (flags : List ℕ) (limit : base + length flags ≤ sweepLimit) (r : Bool) (bare : Bare flags r) (is : r ≡ true) (words : still f ≡ true)
+    (waits : Waits f1s (base + length flags)) where
+  module _ (p : Processor) (st : Standing p f f1s base) (mode azimuth : ℕ) (T : Trace) (values : List ℕ) (made : Made (running mode azimuth T) p) (alike : length flags ≡ length values)
+      (bytes : All (λ v. v ≤ 255) values) where
     made-as : p ≡ runningProcessor mode azimuth T
     unfolding processorOf
     made-as = made .is
 
-    o : Run
-    o = record { front = p .front; machine = p .machine; at = 0 }
+    o : Stand
+    o = record { front = p .front; counts = st .counts; at = 0 }
 
     room : List ℕ
     room = replicate (takeRoom (length flags)) 0
 
-    fed : Fed T (record { flags = flags; values = values }) room o room
+    fed : FedColumns T (record { flags = flags; values = values }) room (st .rows) o room
     unfolding o room
     fed =
-        rests-law o (p .recent) (p .taken) flags values room (bare .yes is) words waits .result T
+        rests-law (st .rows) o (p .recent) (p .taken) flags values room (bare .yes is) (subst (λ (g : Front). still g ≡ true) (sym (st .words)) words)
+        (subst (λ (n : ℕ). Waits (st .rows .f1) (n + length flags)) (sym (st .ticks)) (subst (λ (l : List ℕ). Waits l (base + length flags)) (sym (st .first)) waits))
+        .result (st .sized) T
+        (enters-piece T (runOf (st .rows) o) (p .recent) (p .taken) flags values room
         (record {
           front = front-of mode azimuth T p made-as;
-          machine = machine-of mode azimuth T p made-as;
+          machine = sym (st .machine) ∙ machine-of mode azimuth T p made-as;
           place = refl;
           kept = recent-of mode azimuth T p made-as;
           ticks = sym (taken-of mode azimuth T p made-as);
@@ -116,9 +119,9 @@ module _ (p : Processor) (flags : List ℕ) (limit : p .taken + length flags ≤
           alike-piece = alike;
           bytes = made .sound .bytes;
           bytes-piece = bytes;
-          limit = limit;
+          limit = omega (arith, limit, st .ticks);
           room = omega (arith, length-replicate {A = ℕ} (takeRoom (length flags)) 0);
-        })
+        }))
 
     rests : Rests p mode azimuth T (record { flags = flags; values = values })
     unfolding o runningProcessor
@@ -126,16 +129,16 @@ module _ (p : Processor) (flags : List ℕ) (limit : p .taken + length flags ≤
         let e1 = mode-of mode azimuth T p made-as in
         let e2 = azimuth-of mode azimuth T p made-as in
         let e3 : p .taken + length flags ≡ length (T .flags ++ flags) = omega (arith, taken-of mode azimuth T p made-as, length-append (T .flags) flags) in
-        let e4 = fed .front in
-        let e6 = fed .machine in
+        let e4 = fed .fed .front in
+        let e6 = st .machine ∙ fed .fed .machine in
         record {
-          none-due = no-replies (fresh standard T (record { flags = flags; values = values })) (fed .place);
+          none-due = no-replies (fresh standard T (record { flags = flags; values = values })) (fed .fed .place);
           processor = λ i. record { mode = e1 i; azimuth = e2 i; taken = e3 i; front = e4 i; recent = recentOf (T .values ++ values); machine = e6 i };
         }
 
-pub quiet-no : (p : Processor) (flags : List ℕ) → QuietPost p flags false
-quiet-no p flags = record { limit = λ e. absurd (impossible (sym e)); result = λ e. absurd (impossible (sym e)) }
+pub quiet-no : (f : Front) (f1s : List ℕ) (base : ℕ) (flags : List ℕ) → QuietPost f f1s base flags false
+quiet-no f f1s base flags = record { limit = λ e. absurd (impossible (sym e)); result = λ e. absurd (impossible (sym e)) }
 
-pub quiet-if : (p : Processor) (flags : List ℕ) (r x : Bool) → p .taken + length flags ≤ sweepLimit → Bare flags r → r ≡ true → still (p .front) ≡ true
-    → (x ≡ true → NoneDue (p .machine) (p .taken + length flags)) → QuietPost p flags x
-quiet-if p flags r x limit bare is words waits = record { limit = λ e. limit; result = λ e. rests p flags limit r bare is words (waits e) }
+pub quiet-if : (f : Front) (f1s : List ℕ) (base : ℕ) (flags : List ℕ) (r x : Bool) → base + length flags ≤ sweepLimit → Bare flags r → r ≡ true → still f ≡ true
+    → (x ≡ true → Waits f1s (base + length flags)) → QuietPost f f1s base flags x
+quiet-if f f1s base flags r x limit bare is words waits = record { limit = λ e. limit; result = λ e. rests f f1s base flags limit r bare is words (waits e) }

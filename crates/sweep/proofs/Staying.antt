@@ -5,8 +5,13 @@ use mathlib.Core.Path.{_≡_, refl, sym, _∙_, subst}
 use mathlib.Core.Bool.{Bool, true, false}
 use mathlib.Core.List.{List}
 use lib.Dec.{eqb, leb}
+use lib.ListN.{getD}
 use borrow.Author.Tests.{eqb-true, leb-true, leb-false}
 use Rattle.rules.specs.declared.Machine.{Machine}
+use Rattle.rules.specs.declared.Counts.{Counts}
+use Rattle.rules.specs.Replies.{ended}
+use Rattle.machine.specs.Places.{test}
+use Rattle.lanes.specs.Columns.{Rows, none, marksOf, wordAt, referenceAt, placeIn, placesIn, machineAt}
 use Rattle.rules.proofs.Truth.{and-left, and-right}
 use Rattle.records.proofs.Handing.{retire-none}
 use Rattle.edges.specs.declared.packing.Planes.{Planes}
@@ -18,12 +23,12 @@ use Rattle.edges.proofs.PlaneLaws.{holds-none}
 use Rattle.edges.proofs.detection.LowTicks.{skipped}
 use Rattle.sweep.specs.declared.front.Front.{Front}
 use Rattle.sweep.specs.declared.span.Span.{Span}
-use Rattle.sweep.specs.declared.blocks.Run.{Run}
-use Rattle.sweep.specs.Steps.{AdvancePost, SpanPost, WorkPost, TopPost, still, bare, NoneDue, Stays, BlockPost}
+use Rattle.sweep.specs.declared.blocks.Stand.{Stand}
+use Rattle.sweep.specs.Steps.{AdvancePost, SpanPost, TopPost, still, bare, Waits, Stays, BlockPost, runOf}
 use Rattle.sweep.proofs.Advancing.{advance-law}
 use Rattle.sweep.proofs.Spans.{span-law}
-use Rattle.sweep.proofs.Working.{work-start, end-early, end-late, retires-late, plain-end}
-use Rattle.sweep.proofs.Feeding.{block-law}
+use Rattle.sweep.proofs.Working.{Works, work-start, end-early, end-late, retires-late, plain-end}
+use Rattle.sweep.proofs.Feeding.{fed-next}
 
 -- ---- zero words
 
@@ -152,15 +157,19 @@ span-zero =
 
 -- ---- the machine has nothing to do
 
+-- no reply is due once t ticks are taken
+pub record NoneDue (m : Machine) (t : ℕ) : Type 0 where
+  pub open-still : 179 ≤ t → test (ended (t - 179)) (m .places .p0) ≡ false
+
 top-zero : (r : ℕ) → TopPost 0 r 0
 top-zero r = record { below = omega arith; clear = λ i h. zero-bit i; same = λ i h l. refl }
 
 -- no edge stands at the last r ticks of the span, and no reply is due
 work-none : (m : Machine) (s : Span) (r t : ℕ) (recent : List ℕ) (base : ℕ) (values : List ℕ) (at : ℕ) (b : List ℕ) → r ≤ 64 → TopPost (s .due) r 0 → NoneDue m t
-    → WorkPost m s r t recent base values at b (record { machine = m; at = at }) b
+    → Works (Unit {0}) m s r t recent base values at b (record { machine = m; at = at }) b
 work-none m s r t recent base values at b h top waits = go (leb 179 t) refl
   where
-    go : (c : Bool) → leb 179 t ≡ c → WorkPost m s r t recent base values at b (record { machine = m; at = at }) b
+    go : (c : Bool) → leb 179 t ≡ c → Works (Unit {0}) m s r t recent base values at b (record { machine = m; at = at }) b
     go true e =
         let l = leb-true 179 t e in
         let w = work-start (Unit {0}) m s r t recent base values at b 0 h top in
@@ -171,22 +180,33 @@ work-none m s r t recent base values at b h top waits = go (leb 179 t) refl
         let w = work-start (Unit {0}) m s r t recent base values at b 0 h top in
         plain-end m s r t recent base values at b (record { machine = m; at = at }) b (end-early (Unit {0}) m s r t recent base values at b b m at w (leb-false 179 t e))
 
+-- the first column, idle or open, has nothing due
+waits-none : (x : Rows) (c : Counts) (t : ℕ) → Waits (x .f1) t → NoneDue (machineAt x c) t
+unfolding placesIn placeIn
+waits-none x c t h = record { open-still = λ l. go (eqb (getD (x .f1) 0 0) none) refl l }
+  where
+    go : (d : Bool) → eqb (getD (x .f1) 0 0) none ≡ d → 179 ≤ t → test (ended (t - 179)) (placeIn (x .f1) (x .marks) (x .row) (x .level) 0) ≡ false
+    go true e l = rw e
+    go false e l = rw (e, h .open-still l (record { f1 = record { 0 = getD (x .f1) 0 0 }; marks = marksOf (getD (x .marks) 0 0); word = wordAt (x .row) 0; reference = referenceAt (x .row) (x .level) 0 }) refl)
+
 -- ---- the block
 
-pub stays-law : (o : Run) (x : Planes) (r t : ℕ) (recent : List ℕ) (base : ℕ) (values b : List ℕ) → r ≤ 64 → Stays o x t → BlockPost o x r t recent base values b o b
+pub stays-law : (x : Rows) (o : Stand) (p : Planes) (r t : ℕ) (recent : List ℕ) (base : ℕ) (values b : List ℕ) → r ≤ 64 → Stays (o .front) (x .f1) p t
+    → BlockPost x o p r t recent base values b x o b
 unfolding zeroSpan
-stays-law o x r t recent base values b h s =
+stays-law x o p r t recent base values b h s =
     let f = still-zero (o .front) (s .words) in
-    let p = bare-zero x (s .planes) in
-    block-law o x r t recent base values b (o .front) zeroSpan (record { machine = o .machine; at = o .at }) b
-    (subst (λ (y : Planes). AdvancePost (o .front) y r (o .front)) (sym p) (subst (λ (g : Front). AdvancePost g zeroPlanes r g) (sym f) (advance-zero r h)))
-    (subst (λ (g : Front). SpanPost g zeroSpan) (sym f) span-zero)
-    (work-none (o .machine) zeroSpan r t recent base values (o .at) b h (top-zero r) (s .waits))
-
--- a block after which no edge can be worked and no reply is due leaves the machine as it is
-pub idle-law : (o : Run) (x : Planes) (r t : ℕ) (recent : List ℕ) (base : ℕ) (values b : List ℕ) (f : Front) (s : Span) (todo : ℕ) → r ≤ 64
-    → AdvancePost (o .front) x r f → SpanPost f s → TopPost (s .due) r todo → todo ≡ 0 → NoneDue (o .machine) t
-    → BlockPost o x r t recent base values b (record { front = f; machine = o .machine; at = o .at }) b
-idle-law o x r t recent base values b f s todo h ad sp top e waits =
-    block-law o x r t recent base values b f s (record { machine = o .machine; at = o .at }) b ad sp
-    (work-none (o .machine) s r t recent base values (o .at) b h (subst (TopPost (s .due) r) e top) waits)
+    let e = bare-zero p (s .planes) in
+    record {
+      same = refl;
+      result = λ T P Q b₀ fed lr low nx.
+          record {
+            fed =
+                fed-next (Unit {0}) (runOf x o) p r t recent base values b (o .front) zeroSpan (record { machine = machineAt x (o .counts); at = o .at }) b
+                (subst (λ (y : Planes). AdvancePost (o .front) y r (o .front)) (sym e) (subst (λ (g : Front). AdvancePost g zeroPlanes r g) (sym f) (advance-zero r h)))
+                (subst (λ (g : Front). SpanPost g zeroSpan) (sym f) span-zero)
+                (work-none (machineAt x (o .counts)) zeroSpan r t recent base values (o .at) b h (top-zero r) (waits-none x (o .counts) t (s .waits)))
+                T P Q b₀ (fed .fed) lr low nx;
+            sized = fed .sized;
+          };
+    }

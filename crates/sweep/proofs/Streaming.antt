@@ -1,4 +1,4 @@
--- A piece, block by block, and the zeros past the end, 64 at a time. What each block hands out comes behind what the blocks before it did.
+-- A piece, block by block, and the zeros past the end. What each block hands out comes behind what the blocks before it did.
 use Prim.Native.Nat.{ℕ, zero, suc, _+_, _-_, _*_, _/_, _≤_, _<_}
 use native.Mathlib.Omega.{arith}
 use mathlib.Core.Path.{_≡_, refl, sym, ap, ap₂, _∙_, subst}
@@ -6,6 +6,7 @@ use mathlib.Core.Bool.{Bool, true, false}
 use mathlib.Core.List.{List, [], _∷_, _++_, append-nil, append-assoc}
 use lib.ListN.{length, getD, take, drop, replicate, length-append, length-take, length-drop, length-replicate, replicate-append-replicate}
 use lib.Seq.{getD-take, getD-drop, take-add, take-all, take-append-add, length-take-le}
+use lib.Ieee.{Float}
 use Rattle.rules.specs.declared.Reply.{Reply}
 use Rattle.rules.specs.declared.Totals.{Totals}
 use Rattle.rules.specs.Settings.{standard}
@@ -29,12 +30,16 @@ use Rattle.edges.proofs.packing.FlagBits.{A-bit, P-bit, N-bit, M-bit}
 use Rattle.edges.proofs.BitLaws.{zero-bit, bit-above}
 use Rattle.rules.specs.Buffers.{over-at}
 use Rattle.machine.specs.Places.{machineOf}
+use Rattle.rules.specs.declared.Places.{Places}
+use Rattle.lanes.specs.Columns.{Rows, Sized, placesOf}
+use Rattle.lanes.specs.Post.{LoadPost}
 use Rattle.sweep.specs.declared.blocks.Run.{Run}
+use Rattle.sweep.specs.declared.blocks.Stand.{Stand}
 use Rattle.sweep.specs.State.{frontOf, recentOf}
-use Rattle.sweep.specs.Steps.{Low, stateAt, Bounded, Reads, valueOf, Fed, Next, BlockPost, Begins, FeedPost, Ends, DrainPost, totalsFrom}
+use Rattle.sweep.specs.Steps.{Low, stateAt, Bounded, Reads, valueOf, Fed, runOf, FedColumns, Next, BlockPost, upTo, Enters, Begins, BlocksPost, ColumnsPost, RunPost, FeedPost, Ends, DrainPost, totalsFrom}
 use Rattle.sweep.proofs.Answers.{standard-allowed, join-nothing}
 use Rattle.sweep.proofs.Spans.{value-law}
-use Rattle.sweep.proofs.Working.{over-nil}
+use Rattle.sweep.proofs.Working.{over-nil, loaded}
 
 abbrev nothing : Trace
 nothing = record { flags = []; values = [] }
@@ -88,10 +93,6 @@ packed-bare flags o r e b h t =
   where
     none : (F : ℕ → Bool) → ((i : ℕ) → i < 64 → F (o + i) ≡ false) → HoldsPart F o 64 0
     none F f = record { below = omega arith; at = λ i l. zero-bit i ∙ sym (f i l); rest = λ i l. zero-bit i }
-
--- the first n ticks of a piece
-abbrev upTo : List ℕ → List ℕ → ℕ → Trace
-upTo flags values n = record { flags = take n flags; values = take n values }
 
 -- the next r
 abbrev block : List ℕ → List ℕ → ℕ → ℕ → Trace
@@ -170,26 +171,45 @@ module _ (T : Trace) (o : Run) (recent : List ℕ) (base : ℕ) (flags values b�
       let e = length-take-le n flags h in
       omega (arith, fresh-most standard T (upTo flags values n), e, g .room)
 
--- ---- the loop over a piece
+  pub enters-piece : Enters T o recent base flags values b₀
+  enters-piece =
+      record {
+        front = g .front;
+        machine = g .machine;
+        place = g .place;
+        ticks = g .ticks;
+        alike = g .alike;
+        alike-piece = g .alike-piece;
+        bounded = bounded;
+        reads = reads;
+        room = room;
+      }
 
-module _ (o : Run) (recent : List ℕ) (base : ℕ) (flags values b₀ : List ℕ) where
+-- ---- the loop over a piece, with the places as columns
+
+module _ (x₀ : Rows) (o : Stand) (recent : List ℕ) (base : ℕ) (flags values b₀ : List ℕ) where
   -- i ticks of the piece are through
-  pub record Feeding (b : List ℕ) (y : Run) (i : ℕ) : Type 0 where
+  pub record Feeding (b : List ℕ) (x : Rows) (y : Stand) (i : ℕ) : Type 0 where
     pub same : length b ≡ length b₀
     pub most : i ≤ length flags
-    pub state : (T : Trace) → Begins T o recent base flags values b₀ → Fed T (upTo flags values i) b₀ y b
+    pub state : Sized x₀ → (T : Trace) → Enters T (runOf x₀ o) recent base flags values b₀ → FedColumns T (upTo flags values i) b₀ x y b
 
-  pub feed-start : Feeding b₀ o 0
-  feed-start = record { same = refl; most = omega arith; state = λ T g. fed-nothing T o b₀ (g .alike) (g .front) (g .machine) (g .place) }
-
-  pub feed-next : (b : List ℕ) (y : Run) (i r t : ℕ) (x : Planes) (z : Run) (b′ : List ℕ) → i + r ≤ length flags → t ≡ base + (i + r) → PackedPart flags i r x
-      → BlockPost y x r t recent base values b z b′ → Feeding b y i → Feeding b′ z (i + r)
-  feed-next b y i r t x z b′ h e p k f =
+  pub feed-start : Feeding b₀ x₀ o 0
+  feed-start =
       record {
-        same = k .same ∙ f .same;
+        same = refl;
+        most = omega arith;
+        state = λ z T g. record { fed = fed-nothing T (runOf x₀ o) b₀ (g .alike) (g .front) (g .machine) (g .place); sized = z };
+      }
+
+  pub feed-next : (b : List ℕ) (x : Rows) (y : Stand) (i r t : ℕ) (p : Planes) (x′ : Rows) (z : Stand) (b′ : List ℕ) → i + r ≤ length flags → t ≡ base + (i + r) → PackedPart flags i r p
+      → BlockPost x y p r t recent base values b x′ z b′ → Feeding b x y i → Feeding b′ x′ z (i + r)
+  feed-next b x y i r t p x′ z b′ h e k post f =
+      record {
+        same = post .same ∙ f .same;
         most = h;
         state =
-            λ T g.
+            λ sz T g.
             let n = i + r in
             let P = upTo flags values i in
             let Q = block flags values i r in
@@ -197,61 +217,88 @@ module _ (o : Run) (recent : List ℕ) (base : ℕ) (flags values b₀ : List �
             let lv = length-take-le i values (omega (arith, g .alike-piece)) in
             let lq : length (take r (drop i flags)) ≡ r = length-take-le r (drop i flags) (omega (arith, length-drop i flags)) in
             let m = up-to-more flags values i r in
-            subst (λ (R : Trace). Fed T R b₀ z b′) m
-            (k .result T P Q b₀ (f .state T g) lq (low-block flags values i r x h p)
+            subst (λ (R : Trace). FedColumns T R b₀ x′ z b′) m
+            (post .result T P Q b₀ (f .state sz T g) lq (low-block flags values i r p h k)
             (record {
               alike = g .alike;
               alike-piece = lf ∙ sym lv;
               ticks = omega (arith, g .ticks, lf, lq, e);
-              bounded = subst (λ (R : Trace). Bounded (T ⧺ R)) (sym m) (bounded T o recent base flags values b₀ g n h);
+              bounded = subst (λ (R : Trace). Bounded (T ⧺ R)) (sym m) (g .bounded n h);
               reads =
                   subst (λ (R : Trace). Reads (T ⧺ R) t recent base values) (sym m)
-                  (subst (λ (c : ℕ). Reads (T ⧺ upTo flags values n) c recent base values) (sym e) (reads T o recent base flags values b₀ g n h));
-              room = subst (λ (R : Trace). 18 * length (fresh standard T R) ≤ length b₀) (sym m) (room T o recent base flags values b₀ g n h);
+                  (subst (λ (c : ℕ). Reads (T ⧺ upTo flags values n) c recent base values) (sym e) (g .reads n h));
+              room = subst (λ (R : Trace). 18 * length (fresh standard T R) ≤ length b₀) (sym m) (g .room n h);
               same = f .same;
             }));
       }
 
-  -- a piece that would pass the limit
-  pub feed-over : 32768 < base + length flags → FeedPost o recent base flags values b₀ o b₀
-  feed-over h = record { same = refl; result = λ T g. absurd (omega (arith, g .limit)) }
-
-  pub feed-end : (b : List ℕ) (y : Run) (i : ℕ) → length flags ≤ i → Feeding b y i → FeedPost o recent base flags values b₀ y b
-  feed-end b y i h f =
+  pub feed-end : (b : List ℕ) (x : Rows) (y : Stand) (i : ℕ) → length flags ≤ i → Feeding b x y i → BlocksPost x₀ o recent base flags values b₀ x y b
+  feed-end b x y i h f =
       record {
         same = f .same;
         result =
-            λ T g.
+            λ sz T g.
             let a = take-all i flags h in
             let v = take-all i values (omega (arith, g .alike-piece)) in
             let e : upTo flags values i ≡ record { flags = flags; values = values } = λ j. record { flags = a j; values = v j } in
-            subst (λ (R : Trace). Fed T R b₀ y b) e (f .state T g);
+            subst (λ (R : Trace). FedColumns T R b₀ x y b) e (f .state sz T g);
       }
+
+  -- a piece that would pass the limit
+  pub columns-over : 32768 < base + length flags → ColumnsPost x₀ o recent base flags values b₀ x₀ o b₀
+  columns-over h = record { same = refl; result = λ z T g. absurd (omega (arith, g .limit)) }
+
+  pub columns-law : (x : Rows) (y : Stand) (b : List ℕ) → BlocksPost x₀ o recent base flags values b₀ x y b → ColumnsPost x₀ o recent base flags values b₀ x y b
+  columns-law x y b h = record { same = h .same; result = λ z T g. h .result z T (enters-piece T (runOf x₀ o) recent base flags values b₀ g) }
+
+-- ---- the places become columns and then places again
+
+pub run-law : (o : Run) (recent : List ℕ) (base : ℕ) (flags values b : List ℕ) (f n w : List ℕ) (v : List Float) (on f′ n′ w′ : List ℕ) (v′ : List Float) (x : Rows) (y : Stand) (b′ : List ℕ) {g : Places}
+    → base + length flags < 65000 → Sized (record { f1 = f; marks = n; row = w; level = v; on = on }) → LoadPost f n w v (o .machine .places) f′ n′ w′ v′
+    → BlocksPost (record { f1 = f′; marks = n′; row = w′; level = v′; on = on }) (record { front = o .front; counts = o .machine .counts; at = o .at }) recent base flags values b x y b′
+    → g ≡ placesOf x → RunPost o recent base flags values b (record { front = y .front; machine = record { places = g; counts = y .counts }; at = y .at }) b′
+run-law o recent base flags values b f n w v on f′ n′ w′ v′ x y b′ {g} lt z load post is =
+    record {
+      same = post .same;
+      result = λ T e.
+          let x₀ : Rows = record { f1 = f′; marks = n′; row = w′; level = v′; on = on } in
+          let l = loaded (o .machine) T (length (T .flags) - 178) (omega (arith, e .ticks)) (e .machine) f n w v f′ n′ w′ v′ on load z in
+          let p = l .places in
+          let k = post .result (l .sized) T
+          (record {
+            front = e .front;
+            machine = (λ i. record { places = p i; counts = o .machine .counts }) ∙ e .machine;
+            place = e .place;
+            ticks = e .ticks;
+            alike = e .alike;
+            alike-piece = e .alike-piece;
+            bounded = e .bounded;
+            reads = e .reads;
+            room = e .room;
+          }) in
+          subst (λ (q : Places). Fed T (record { flags = flags; values = values }) b (record { front = y .front; machine = record { places = q; counts = y .counts }; at = y .at }) b′) (sym is) (k .fed);
+    }
+
+-- a piece that would pass the limit
+pub feed-over : (o : Run) (recent : List ℕ) (base : ℕ) (flags values b : List ℕ) → 32768 < base + length flags → FeedPost o recent base flags values b o b
+feed-over o recent base flags values b h = record { same = refl; result = λ T g. absurd (omega (arith, g .limit)) }
+
+pub feed-law : (o : Run) (recent : List ℕ) (base : ℕ) (flags values b : List ℕ) (y : Run) (b′ : List ℕ) → RunPost o recent base flags values b y b′ → FeedPost o recent base flags values b y b′
+feed-law o recent base flags values b y b′ h = record { same = h .same; result = λ T g. h .result T (enters-piece T o recent base flags values b g) }
 
 -- ---- the ticks past the end
 
 silence-more : (m n : ℕ) → silence m ⧺ silence n ≡ silence (m + n)
 silence-more m n = let z = replicate-append-replicate {A = ℕ} m n 0 in λ i. record { flags = z i; values = z i }
 
--- zeros, as words
-low-silence : (n : ℕ) (x : Planes) → x ≡ record { a = 0; p = 0; n = 0; m = 0 } → Low (replicate n 0) x
-unfolding A P N M
-low-silence n x e = subst (Low (replicate n 0)) (sym e) (record { a = λ m l. zero-bit m ∙ no-A m; p = λ m l. zero-bit m ∙ no-P m; n = λ m l. zero-bit m ∙ no-N m; m = λ m l. zero-bit m ∙ no-M m })
-  where
-    nil : (m : ℕ) → getD {A = ℕ} [] m 0 ≡ getD (replicate n 0) m 0
-    nil m = sym (zeros-alike [] n m)
+take-zeros : (n k : ℕ) → n ≤ k → take n (replicate {A = ℕ} k 0) ≡ replicate n 0
+take-zeros zero k h = refl
+take-zeros (suc n) zero h = absurd (omega arith)
+take-zeros (suc n) (suc k) h = ap {B = List ℕ} (λ l. 0 ∷ l) (take-zeros n k (omega arith))
 
-    no-A : (m : ℕ) → false ≡ A (replicate n 0) m
-    no-A m = flag-A [] (replicate n 0) m m (nil m)
-
-    no-P : (m : ℕ) → false ≡ P (replicate n 0) m
-    no-P m = flag-P [] (replicate n 0) m m (nil m)
-
-    no-N : (m : ℕ) → false ≡ N (replicate n 0) m
-    no-N m = flag-N [] (replicate n 0) m m (nil m)
-
-    no-M : (m : ℕ) → false ≡ M (replicate n 0) m
-    no-M m = flag-M [] (replicate n 0) m m (nil m)
+-- the first n of the zeros
+zeros-up-to : (n k : ℕ) → n ≤ k → upTo (replicate k 0) (replicate k 0) n ≡ silence n
+zeros-up-to n k h = let z = take-zeros n k h in λ i. record { flags = z i; values = z i }
 
 module _ (T : Trace) (o : Run) (recent : List ℕ) (base : ℕ) (b₀ : List ℕ) (g : Ends T o recent base b₀) where
   all-zero : (n : ℕ) → All (λ v. v ≤ 255) (replicate n 0)
@@ -268,17 +315,16 @@ module _ (T : Trace) (o : Run) (recent : List ℕ) (base : ℕ) (b₀ : List ℕ
             omega (arith, edge-end standard standard-allowed T u e, g .ticks, g .limit);
       }
 
-  -- a piece of one zero stands for the values past the end
-  reads-silence : (n : ℕ) → Reads (T ⧺ silence n) (base + n) recent base (0 ∷ [])
-  reads-silence n =
+  reads-silence : (n : ℕ) → n ≤ 448 → Reads (T ⧺ silence n) (base + n) recent base (replicate 448 0)
+  reads-silence n h =
       record {
         at =
             λ k l m.
             let old = T .values in
             let e : base ≡ length old = omega (arith, g .ticks, g .alike) in
-            ap₂ (λ (r : List ℕ) (c : ℕ). valueOf r c (0 ∷ []) k) (g .kept) e
-            ∙ value-law old (0 ∷ []) k (omega arith)
-            ∙ zeros-alike old 1 k
+            ap₂ (λ (r : List ℕ) (c : ℕ). valueOf r c (replicate 448 0) k) (g .kept) e
+            ∙ value-law old (replicate 448 0) k (omega arith)
+            ∙ zeros-alike old 448 k
             ∙ sym (zeros-alike old n k);
       }
 
@@ -294,50 +340,25 @@ module _ (T : Trace) (o : Run) (recent : List ℕ) (base : ℕ) (b₀ : List ℕ
       let q = ap length (sym e ∙ w ∙ f) in
       omega (arith, q, length-append (fresh standard T (silence n)) (fresh standard (T ⧺ silence n) (silence k)), rest-most standard standard-allowed T, g .room)
 
--- ---- the loop over the zeros
-
-module _ (o : Run) (recent : List ℕ) (base : ℕ) (b₀ : List ℕ) where
-  -- 64 times i zeros are through
-  pub record Draining (b : List ℕ) (y : Run) (i : ℕ) : Type 0 where
-    pub same : length b ≡ length b₀
-    pub most : i ≤ 7
-    pub state : (T : Trace) → Ends T o recent base b₀ → Fed T (silence (64 * i)) b₀ y b
-
-  pub drain-start : Draining b₀ o 0
-  drain-start = record { same = refl; most = omega arith; state = λ T g. fed-nothing T o b₀ (g .alike) (g .front) (g .machine) (g .place) }
-
-  pub drain-next : (b : List ℕ) (y : Run) (i t : ℕ) (x : Planes) (z : Run) (b′ : List ℕ) → i < 7 → t ≡ base + 64 * (i + 1) → x ≡ record { a = 0; p = 0; n = 0; m = 0 }
-      → BlockPost y x 64 t recent base (0 ∷ []) b z b′ → Draining b y i → Draining b′ z (i + 1)
-  drain-next b y i t x z b′ h e p k f =
+  enters-silence : Enters T o recent base (replicate 448 0) (replicate 448 0) b₀
+  enters-silence =
       record {
-        same = k .same ∙ f .same;
-        most = omega arith;
-        state =
-            λ T g.
-            let n = 64 * (i + 1) in
-            let w : 64 * i + 64 ≡ n = omega arith in
-            let m = silence-more (64 * i) 64 ∙ ap silence w in
-            subst (λ (R : Trace). Fed T R b₀ z b′) m
-            (k .result T (silence (64 * i)) (silence 64) b₀ (f .state T g) (length-replicate {A = ℕ} 64 0) (low-silence 64 x p)
-            (record {
-              alike = g .alike;
-              alike-piece = refl;
-              ticks = omega (arith, g .ticks, length-replicate {A = ℕ} (64 * i) 0, e);
-              bounded = subst (λ (R : Trace). Bounded (T ⧺ R)) (sym m) (bounded-silence T o recent base b₀ g n);
-              reads =
-                  subst (λ (R : Trace). Reads (T ⧺ R) t recent base (0 ∷ [])) (sym m)
-                  (subst (λ (c : ℕ). Reads (T ⧺ silence n) c recent base (0 ∷ [])) (sym e) (reads-silence T o recent base b₀ g n));
-              room = subst (λ (R : Trace). 18 * length (fresh standard T R) ≤ length b₀) (sym m) (room-silence T o recent base b₀ g n (omega arith));
-              same = f .same;
-            }));
+        front = g .front;
+        machine = g .machine;
+        place = g .place;
+        ticks = g .ticks;
+        alike = g .alike;
+        alike-piece = refl;
+        bounded = λ n h. subst (λ (R : Trace). Bounded (T ⧺ R)) (sym (zeros-up-to n 448 (most n h))) (bounded-silence n);
+        reads = λ n h. subst (λ (R : Trace). Reads (T ⧺ R) (base + n) recent base (replicate 448 0)) (sym (zeros-up-to n 448 (most n h))) (reads-silence n (most n h));
+        room = λ n h. subst (λ (R : Trace). 18 * length (fresh standard T R) ≤ length b₀) (sym (zeros-up-to n 448 (most n h))) (room-silence n (most n h));
       }
+    where
+      most : (n : ℕ) → n ≤ length (replicate {A = ℕ} 448 0) → n ≤ 448
+      most n h = omega (arith, length-replicate {A = ℕ} 448 0)
 
-  pub drain-end : (b : List ℕ) (y : Run) (i : ℕ) → 7 ≤ i → Draining b y i → DrainPost o recent base b₀ y b
-  drain-end b y i h f =
-      record {
-        same = f .same;
-        result = λ T g. let z : 64 * i ≡ 448 = omega (arith, f .most) in subst (λ (n : ℕ). Fed T (silence n) b₀ y b) z (f .state T g);
-      }
+pub drain-law : (o : Run) (recent : List ℕ) (base : ℕ) (b : List ℕ) (y : Run) (b′ : List ℕ) → RunPost o recent base (replicate 448 0) (replicate 448 0) b y b′ → DrainPost o recent base b y b′
+drain-law o recent base b y b′ h = record { same = h .same; result = λ T g. h .result T (enters-silence T o recent base b g) }
 
 -- ---- the totals of a sweep, from the machine after the zeros
 

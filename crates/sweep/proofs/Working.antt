@@ -8,11 +8,11 @@ use mathlib.Core.Bool.{Bool, true, false}
 use mathlib.Core.List.{List, [], _∷_, _++_, append-nil, append-assoc}
 use lib.Dec.{leb}
 use lib.ListN.{length, length-append}
+use lib.Ieee.{Float}
 use borrow.Author.Tests.{leb-true, leb-false}
 use Rattle.rules.specs.declared.Reply.{Reply}
 use Rattle.rules.specs.declared.Machine.{Machine}
 use Rattle.rules.specs.declared.Counts.{Counts}
-use Rattle.rules.specs.declared.Places.{Places}
 use Rattle.rules.specs.Settings.{standard}
 use Rattle.rules.specs.Lists.{All, filter}
 use Rattle.rules.specs.Samples.{Trace}
@@ -29,14 +29,14 @@ use Rattle.machine.specs.Places.{placeAt, placed, machineOf}
 use Rattle.records.specs.declared.Retired.{Retired}
 use Rattle.rules.specs.Buffers.{over-at}
 use Rattle.records.specs.Post.{Queue, RetirePost}
-use Rattle.lanes.specs.Columns.{Rows, Sized, none, placesOf, machineAt, FitsPlace}
+use Rattle.lanes.specs.Columns.{Rows, Sized, none, machineAt, FitsPlace}
 use Rattle.lanes.specs.Masks.{AllMasked}
-use Rattle.lanes.specs.Post.{HandPost, LoadPost}
+use Rattle.lanes.specs.Post.{HandPost, Loaded, LoadPost, MasksPost}
 use Rattle.rules.proofs.Buffers.{over-at-more, over-at-nil}
 use Rattle.edges.specs.Words.{bit, Lowest, WithoutLowest}
 use Rattle.edges.proofs.BitLaws.{zero-bit}
 use Rattle.sweep.specs.declared.span.Span.{Span}
-use Rattle.sweep.specs.Steps.{stateAt, Shows, Gives, Keeps, VisitPost, WorkPost, TopPost}
+use Rattle.sweep.specs.Steps.{stateAt, Shows, Gives, Keeps, VisitPost, LatePost, WorkPost, TopPost}
 use Rattle.sweep.proofs.Growing.{padded-none}
 use Rattle.sweep.proofs.Spans.{span-stands}
 use Rattle.sweep.proofs.Visiting.{queue}
@@ -308,7 +308,14 @@ module _ (X : Type 0) (m₀ : Machine) (s : Span) (r t : ℕ) (recent : List ℕ
     pub end-early : t < 179 → Ended (record { machine = m; at = at }) b
     end-early h = record { keeps = record { same = w .same-length; inside = w .inside }; result = work-early h }
 
--- ---- no edge is due: the machine stays as it is
+-- ---- no edge is due, and no reply: the machine stays as it is
+
+-- the machine works the r ticks that became known with the last r of t ticks, and E is then known
+pub record Works (E : Type 0) (m : Machine) (s : Span) (r t : ℕ) (recent : List ℕ) (base : ℕ) (values : List ℕ) (at : ℕ) (b : List ℕ) (x : Retired) (b′ : List ℕ) : Type 0 where
+  pub keeps : Keeps at b x b′
+  pub result : (T : Trace) → Shows T t s recent base values → r ≤ t → m ≡ machineOf (stateAt T (t - r - 178))
+      → (l : List Reply) → stateAt T (t - 178) .done ≡ stateAt T (t - r - 178) .done ++ l → at + 18 * length l ≤ length b
+      → Gives l (stateAt T (t - 178)) at b x b′ × E
 
 pub retires-late : (X : Type 0) (m₀ : Machine) (s : Span) (r t : ℕ) (recent : List ℕ) (base : ℕ) (values : List ℕ) (at : ℕ) (b : List ℕ)
     (w : Working X m₀ s r t recent base values at b b m₀ at 0) (x : Retired) (b′ : List ℕ) → RetirePost m₀ (t - 179) at b x b′
@@ -321,11 +328,11 @@ retires-late X m₀ s r t recent base values at b w x b′ v =
     }
 
 pub plain-end : (m : Machine) (s : Span) (r t : ℕ) (recent : List ℕ) (base : ℕ) (values : List ℕ) (at : ℕ) (b : List ℕ) (x : Retired) (b′ : List ℕ)
-    → Ended (Unit {0}) m s r t recent base values at b x b′ → WorkPost m s r t recent base values at b x b′
+    → Ended (Unit {0}) m s r t recent base values at b x b′ → Works (Unit {0}) m s r t recent base values at b x b′
 plain-end m s r t recent base values at b x b′ h =
     record {
       keeps = h .keeps;
-      result = λ T sh le is l e room. h .result T l (record { extra = tt; shows = sh; within = le; machine = is; done = e; room = room });
+      result = λ T sh le is l e room. (h .result T l (record { extra = tt; shows = sh; within = le; machine = is; done = e; room = room }), tt);
     }
 
 -- ---- the columns
@@ -367,29 +374,91 @@ module _ (s : Span) (r t : ℕ) (recent : List ℕ) (base : ℕ) (values : List 
               (q .sized, q .masked);
         }
 
-  -- at the end what is due is handed out from the columns
-  module _ (c₀ : Counts) (b : List ℕ) (x : Rows) (c : Counts) (at : ℕ) (w : Rowed c₀ b x c at 0) where
-    rowed-late : t < 65000 → (x′ : Rows) (e : ℕ) (b′ : List ℕ) → HandPost x (t - 179) at b x′ e b′
-        → Late Ready (machineAt x₀ c₀) s r t recent base values at₀ b₀ b (machineAt x c) at (w .work) (record { machine = machineAt x′ c; at = e }) b′
-    unfolding retired
-    rowed-late lt x′ e b′ h =
-        record {
-          same = h .same;
-          inside = h .inside;
-          result = λ T l g S is q room.
-              let y = h .result (w .rows T l g .0) (omega arith) (S .live) (λ i. is i .places) (q .four) (q .order) room in
-              record { machine = λ i. record { places = y .places i; counts = is i .counts }; place = y .place; buffer = y .buffer };
-        }
+-- ---- at the end what is due is handed out from the columns
 
-    pub rows-late : t < 65000 → 179 ≤ t → (x′ : Rows) (e : ℕ) (b′ : List ℕ) → HandPost x (t - 179) at b x′ e b′
-        → Ended Ready (machineAt x₀ c₀) s r t recent base values at₀ b₀ (record { machine = machineAt x′ c; at = e }) b′
-    rows-late lt h x′ e b′ p =
-        end-late Ready (machineAt x₀ c₀) s r t recent base values at₀ b₀ b (machineAt x c) at (w .work) (record { machine = machineAt x′ c; at = e }) b′ h (rowed-late lt x′ e b′ p)
+pub late-none : (x : Rows) (t at : ℕ) (b : List ℕ) → t < 179 → LatePost x t at b x at b
+late-none x t at b h = record { same = refl; early = λ l. (refl, refl, refl); late = λ l. absurd (omega arith) }
 
-    pub rows-early : t < 179 → Ended Ready (machineAt x₀ c₀) s r t recent base values at₀ b₀ (record { machine = machineAt x c; at = at }) b
-    rows-early h = end-early Ready (machineAt x₀ c₀) s r t recent base values at₀ b₀ b (machineAt x c) at (w .work) h
+pub late-some : (x : Rows) (t at : ℕ) (b : List ℕ) (x′ : Rows) (r : ℕ) (b′ : List ℕ) → 179 ≤ t → HandPost x (t - 179) at b x′ r b′ → LatePost x t at b x′ r b′
+late-some x t at b x′ r b′ h p = record { same = p .same; early = λ l. absurd (omega arith); late = λ l. p }
 
--- ---- the columns at the start are those of the machine
+module _ (X : Type 0) (m₀ : Machine) (s : Span) (r t : ℕ) (recent : List ℕ) (base : ℕ) (values : List ℕ) (at₀ : ℕ) (b₀ b : List ℕ) (x : Rows) (c : Counts) (at : ℕ)
+    (w : Working X m₀ s r t recent base values at₀ b₀ b (machineAt x c) at 0) (sized : (T : Trace) (l : List Reply) → Given X m₀ s r t recent base values at₀ b₀ T l → Sized x)
+    (lt : t < 65000) (x′ : Rows) (e : ℕ) (b′ : List ℕ) (h : LatePost x t at b x′ e b′) where
+  handed : HandPost x (t - 179) at b x′ e b′ → Late X m₀ s r t recent base values at₀ b₀ b (machineAt x c) at w (record { machine = machineAt x′ c; at = e }) b′
+  unfolding retired
+  handed p =
+      record {
+        same = p .same;
+        inside = p .inside;
+        result = λ T l g S is q room.
+            let y = p .result (sized T l g) (omega arith) (S .live) (λ i. is i .places) (q .four) (q .order) room in
+            record { machine = λ i. record { places = y .places i; counts = is i .counts }; place = y .place; buffer = y .buffer };
+      }
+
+  last-ended : Ended X m₀ s r t recent base values at₀ b₀ (record { machine = machineAt x′ c; at = e }) b′
+  last-ended = go (leb 179 t) refl
+    where
+      go : (d : Bool) → leb 179 t ≡ d → Ended X m₀ s r t recent base values at₀ b₀ (record { machine = machineAt x′ c; at = e }) b′
+      go true q =
+          let l = leb-true 179 t q in
+          end-late X m₀ s r t recent base values at₀ b₀ b (machineAt x c) at w (record { machine = machineAt x′ c; at = e }) b′ l (handed (h .late l))
+      go false q =
+          let l = leb-false 179 t q in
+          let k = h .early l in
+          let y = end-early X m₀ s r t recent base values at₀ b₀ b (machineAt x c) at w l in
+          subst (λ (z : Rows). Ended X m₀ s r t recent base values at₀ b₀ (record { machine = machineAt z c; at = e }) b′) (sym (k .0))
+          (subst (λ (n : ℕ). Ended X m₀ s r t recent base values at₀ b₀ (record { machine = machineAt x c; at = n }) b′) (sym (k .1))
+          (subst (λ (v : List ℕ). Ended X m₀ s r t recent base values at₀ b₀ (record { machine = machineAt x c; at = at }) v) (sym (k .2)) y))
+
+  last-sized : (T : Trace) (l : List Reply) → Given X m₀ s r t recent base values at₀ b₀ T l → Sized x′
+  last-sized T l g = go (leb 179 t) refl
+    where
+      go : (d : Bool) → leb 179 t ≡ d → Sized x′
+      go true q = h .late (leb-true 179 t q) .kept (sized T l g) .sized
+      go false q = subst Sized (sym (h .early (leb-false 179 t q) .0)) (sized T l g)
+
+-- the columns x, from which X follows, are worked
+columns-end : (X : Type 0) (x : Rows) (c : Counts) (s : Span) (r t : ℕ) (recent : List ℕ) (base : ℕ) (values : List ℕ) (at : ℕ) (b : List ℕ) (x′ : Rows) (c′ : Counts) (e : ℕ) (b′ : List ℕ)
+    → (Sized x → X) → Ended X (machineAt x c) s r t recent base values at b (record { machine = machineAt x′ c′; at = e }) b′
+    → ((T : Trace) (l : List Reply) → Given X (machineAt x c) s r t recent base values at b T l → Sized x′) → WorkPost x c s r t recent base values at b x′ c′ e b′
+columns-end X x c s r t recent base values at b x′ c′ e b′ known h sized =
+    record {
+      keeps = h .keeps;
+      result = λ sz T sh le is l d room.
+          let g : Given X (machineAt x c) s r t recent base values at b T l = record { extra = known sz; shows = sh; within = le; machine = is; done = d; room = room } in
+          record { gives = h .result T l g; sized = sized T l g };
+    }
+
+-- the columns with their words written
+ready : (x : Rows) (t : ℕ) (on : List ℕ) → MasksPost (x .f1) (x .marks) (x .on) t on → Sized x
+    → Sized (record { f1 = x .f1; marks = x .marks; row = x .row; level = x .level; on = on }) × AllMasked t (record { f1 = x .f1; marks = x .marks; row = x .row; level = x .level; on = on })
+ready x t on h z = (record { f1 = z .f1; marks = z .marks; row = z .row; level = z .level; on = h .size (z .on) }, h .masked (z .on) (x .row) (x .level))
+
+module _ (x : Rows) (c : Counts) (s : Span) (r t : ℕ) (recent : List ℕ) (base : ℕ) (values : List ℕ) (at : ℕ) (b : List ℕ) (lt : t < 65000) where
+  -- no edge is due
+  pub work-quiet : (todo : ℕ) (x′ : Rows) (e : ℕ) (b′ : List ℕ) → r ≤ 64 → TopPost (s .due) r todo → todo ≡ 0 → LatePost x t at b x′ e b′
+      → WorkPost x c s r t recent base values at b x′ c e b′
+  work-quiet todo x′ e b′ h top z late =
+      let w : Working (Sized x) (machineAt x c) s r t recent base values at b b (machineAt x c) at 0 =
+      work-start (Sized x) (machineAt x c) s r t recent base values at b 0 h (subst (TopPost (s .due) r) z top) in
+      columns-end (Sized x) x c s r t recent base values at b x′ c e b′ (λ k. k)
+      (last-ended (Sized x) (machineAt x c) s r t recent base values at b b x c at w (λ T l g. g .extra) lt x′ e b′ late)
+      (last-sized (Sized x) (machineAt x c) s r t recent base values at b b x c at w (λ T l g. g .extra) lt x′ e b′ late)
+
+  -- after the last edge
+  pub work-all : (on : List ℕ) → MasksPost (x .f1) (x .marks) (x .on) t on → (b₁ : List ℕ) (x₁ : Rows) (c₁ : Counts) (at₁ todo : ℕ) → todo ≡ 0
+      → Rowed s r t recent base values at b (record { f1 = x .f1; marks = x .marks; row = x .row; level = x .level; on = on }) c b₁ x₁ c₁ at₁ todo
+      → (x′ : Rows) (e : ℕ) (b′ : List ℕ) → LatePost x₁ t at₁ b₁ x′ e b′ → WorkPost x c s r t recent base values at b x′ c₁ e b′
+  work-all on masks b₁ x₁ c₁ at₁ todo z w x′ e b′ late =
+      let x₀ : Rows = record { f1 = x .f1; marks = x .marks; row = x .row; level = x .level; on = on } in
+      let v : Rowed s r t recent base values at b x₀ c b₁ x₁ c₁ at₁ 0 = subst (λ (n : ℕ). Rowed s r t recent base values at b x₀ c b₁ x₁ c₁ at₁ n) z w in
+      let X = Sized x₀ × AllMasked t x₀ in
+      columns-end X x c s r t recent base values at b x′ c₁ e b′ (ready x t on masks)
+      (last-ended X (machineAt x₀ c) s r t recent base values at b b₁ x₁ c₁ at₁ (v .work) (λ T l g. v .rows T l g .0) lt x′ e b′ late)
+      (last-sized X (machineAt x₀ c) s r t recent base values at b b₁ x₁ c₁ at₁ (v .work) (λ T l g. v .rows T l g .0) lt x′ e b′ late)
+
+-- ---- the F1 of the open replies
 
 all-behind : (P : Reply → Type 0) (d l : List Reply) → All P (d ++ l) → All P l
 all-behind P [] l h = h
@@ -406,34 +475,12 @@ fits-place c h [] a j = tt
 fits-place c h (r ∷ l) a zero = omega (arith, a .0 .1)
 fits-place c h (r ∷ l) a (suc j) = fits-place c h l (a .1) j
 
-pub rows-end : (m : Machine) (s : Span) (r t : ℕ) (recent : List ℕ) (base : ℕ) (values : List ℕ) (at₀ : ℕ) (b₀ : List ℕ) (z x₀ : Rows) → t < 65000 → Sized z → LoadPost z (m .places) t x₀
-    → (x : Retired) (b′ : List ℕ) → Ended (Sized x₀ × AllMasked t x₀) (machineAt x₀ (m .counts)) s r t recent base values at₀ b₀ x b′ → WorkPost m s r t recent base values at₀ b₀ x b′
-rows-end m s r t recent base values at₀ b₀ z x₀ lt sz load x b′ h =
-    record {
-      keeps = h .keeps;
-      result = λ T sh le is l e room.
-          let c = t - r - 178 in
-          let a = live-low T c in
-          let n : c < none = omega arith in
-          let p : m .places ≡ placed (stateAt T c .live) = λ i. is i .places in
-          let fit : (j : ℕ) → FitsPlace (placeAt j (stateAt T c .live)) = fits-place c n (stateAt T c .live) a in
-          let y =
-          load .result sz (subst FitsPlace (λ i. sym p i .p0) (fit 0)) (subst FitsPlace (λ i. sym p i .p1) (fit 1)) (subst FitsPlace (λ i. sym p i .p2) (fit 2))
-          (subst FitsPlace (λ i. sym p i .p3) (fit 3)) in
-          h .result T l
-          (record {
-            extra = (y .sized, y .masked);
-            shows = sh;
-            within = le;
-            machine = (λ i. record { places = y .places i; counts = m .counts }) ∙ is;
-            done = e;
-            room = room;
-          });
-    }
-
--- the places as the code has them
-pub ended-as : (X : Type 0) (m₀ : Machine) (s : Span) (r t : ℕ) (recent : List ℕ) (base : ℕ) (values : List ℕ) (at₀ : ℕ) (b₀ : List ℕ) (x : Rows) (c : Counts) (e : ℕ) {f : Places} {b′ : List ℕ}
-    → f ≡ placesOf x → Ended X m₀ s r t recent base values at₀ b₀ (record { machine = machineAt x c; at = e }) b′
-    → Ended X m₀ s r t recent base values at₀ b₀ (record { machine = record { places = f; counts = c }; at = e }) b′
-ended-as X m₀ s r t recent base values at₀ b₀ x c e {f} {b′} p h =
-    subst (λ (g : Places). Ended X m₀ s r t recent base values at₀ b₀ (record { machine = record { places = g; counts = c }; at = e }) b′) (sym p) h
+-- the columns that the machine of a state was written to
+pub loaded : (m : Machine) (T : Trace) (c : ℕ) → c < none → m ≡ machineOf (stateAt T c) → (f n w : List ℕ) (v : List Float) (f′ n′ w′ : List ℕ) (v′ : List Float) (on : List ℕ)
+    → LoadPost f n w v (m .places) f′ n′ w′ v′ → Sized (record { f1 = f; marks = n; row = w; level = v; on = on })
+    → Loaded (m .places) (record { f1 = f′; marks = n′; row = w′; level = v′; on = on })
+loaded m T c h is f n w v f′ n′ w′ v′ on load z =
+    let p : m .places ≡ placed (stateAt T c .live) = λ i. is i .places in
+    let fit : (j : ℕ) → FitsPlace (placeAt j (stateAt T c .live)) = fits-place c h (stateAt T c .live) (live-low T c) in
+    load .result on z (subst FitsPlace (λ i. sym p i .p0) (fit 0)) (subst FitsPlace (λ i. sym p i .p1) (fit 1)) (subst FitsPlace (λ i. sym p i .p2) (fit 2))
+    (subst FitsPlace (λ i. sym p i .p3) (fit 3))

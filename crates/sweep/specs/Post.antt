@@ -14,6 +14,9 @@ use Rattle.rules.specs.Records.{records, totals}
 use Rattle.rules.specs.Calls.{Answer as Verdict, accepted, refused, openAnswer, takeAnswer, closeAnswer, fresh, rest}
 use Rattle.rules.specs.declared.Totals.{Totals}
 use Rattle.sweep.specs.declared.Answer.the-variants.{Accepted, Refused}
+use Rattle.rules.specs.declared.Counts.{Counts}
+use Rattle.lanes.specs.Columns.{Rows, Sized, machineAt}
+use Rattle.sweep.specs.declared.front.Front.{Front}
 use Rattle.sweep.specs.declared.Processor.{Processor}
 use Rattle.sweep.specs.declared.Opened.{Opened}
 use Rattle.sweep.specs.declared.Taken.{Taken}
@@ -69,11 +72,21 @@ pub record Rests (p : Processor) (mode azimuth : ℕ) (T P : Trace) : Type 0 whe
   pub processor : record { mode = p .mode; azimuth = p .azimuth; taken = p .taken + length (P .flags); front = p .front; recent = recentOf (T .values ++ P .values); machine = p .machine }
       ≡ runningProcessor mode azimuth (T ⧺ P)
 
--- if r is true, every piece of these flags is such a piece
-pub record QuietPost (p : Processor) (flags : List ℕ) (r : Bool) : Type 0 where
-  pub limit : r ≡ true → p .taken + length flags ≤ sweepLimit
-  pub result : r ≡ true → (mode azimuth : ℕ) (T : Trace) (values : List ℕ) → Made (running mode azimuth T) p → length flags ≡ length values → All (λ v. v ≤ 255) values
-      → Rests p mode azimuth T (record { flags = flags; values = values })
+-- a processor with these words, columns with these F1, and so many ticks taken
+pub record Standing (p : Processor) (f : Front) (f1s : List ℕ) (base : ℕ) : Type 0 where
+  pub ticks : p .taken ≡ base
+  pub words : p .front ≡ f
+  pub rows : Rows
+  pub counts : Counts
+  pub first : rows .f1 ≡ f1s
+  pub sized : Sized rows
+  pub machine : p .machine ≡ machineAt rows counts
+
+-- if r is true, every piece of these flags is such a piece for such a processor
+pub record QuietPost (f : Front) (f1s : List ℕ) (base : ℕ) (flags : List ℕ) (r : Bool) : Type 0 where
+  pub limit : r ≡ true → base + length flags ≤ sweepLimit
+  pub result : r ≡ true → (p : Processor) → Standing p f f1s base → (mode azimuth : ℕ) (T : Trace) (values : List ℕ) → Made (running mode azimuth T) p → length flags ≡ length values
+      → All (λ v. v ≤ 255) values → Rests p mode azimuth T (record { flags = flags; values = values })
 
 -- ---- close
 

@@ -4,14 +4,14 @@ use mathlib.Core.Bool.{Bool, true, false, cond, _&&_}
 use mathlib.Core.List.{List, [], _∷_, _++_}
 use mathlib.Core.Path.{_≡_}
 use lib.Dec.{leb, ltb, eqb}
-use lib.ListN.{length, getD}
+use lib.ListN.{length, getD, take}
 use Rattle.rules.specs.declared.Reply.{Reply}
 use Rattle.rules.specs.declared.Machine.{Machine}
 use Rattle.rules.specs.Settings.{standard}
 use Rattle.rules.specs.Lists.{All, filter}
 use Rattle.rules.specs.Samples.{Trace, _⧺_, A, P, N, M, sweepLimit}
 use Rattle.rules.specs.Edges.{stands, edgeAt}
-use Rattle.rules.specs.Replies.{ended}
+use Rattle.rules.specs.Replies.{f1, ended}
 use Rattle.rules.specs.Machine.{State, after}
 use Rattle.rules.specs.Records.{records}
 use Rattle.rules.specs.Calls.{fresh, silence, takeRoom, closeRoom}
@@ -20,6 +20,7 @@ use Rattle.rules.specs.declared.Totals.{Totals}
 use Rattle.machine.specs.Places.{test, machineOf}
 use Rattle.lanes.specs.Columns.{Rows, Sized, machineAt}
 use Rattle.lanes.specs.Masks.{AllMasked}
+use Rattle.lanes.specs.Post.{HandPost}
 use Rattle.records.specs.declared.Retired.{Retired}
 use Rattle.rules.specs.Buffers.{over-at}
 use Rattle.edges.specs.declared.packing.Planes.{Planes}
@@ -32,6 +33,7 @@ use Rattle.edges.specs.Planes.{hasEdge}
 use Rattle.sweep.specs.declared.front.Front.{Front}
 use Rattle.sweep.specs.declared.span.Span.{Span}
 use Rattle.sweep.specs.declared.blocks.Run.{Run}
+use Rattle.sweep.specs.declared.blocks.Stand.{Stand}
 use Rattle.sweep.specs.State.{padded, frontOf, recentOf}
 
 -- the low bits of the planes x are those of the flags G
@@ -155,12 +157,23 @@ pub record VisitPost (x : Rows) (c : Counts) (s : Span) (i t : ℕ) (recent : Li
       → at + 18 * length (filter (ended u) (stateAt T k .live)) ≤ length b
       → Went (filter (ended u) (stateAt T k .live)) (stateAt T (suc u)) t at b x′ c′ r b′
 
+-- what is due once t ticks are taken is handed out
+pub record LatePost (x : Rows) (t at : ℕ) (b : List ℕ) (x′ : Rows) (r : ℕ) (b′ : List ℕ) : Type 0 where
+  pub same : length b′ ≡ length b
+  pub early : t < 179 → (x′ ≡ x) × (r ≡ at) × (b′ ≡ b)
+  pub late : 179 ≤ t → HandPost x (t - 179) at b x′ r b′
+
+-- the columns with their counts are the machine of the state, and the records of l are handed out
+pub record Worked (l : List Reply) (z : State) (at : ℕ) (b : List ℕ) (x′ : Rows) (c′ : Counts) (r : ℕ) (b′ : List ℕ) : Type 0 where
+  pub gives : Gives l z at b (record { machine = machineAt x′ c′; at = r }) b′
+  pub sized : Sized x′
+
 -- the machine works the r ticks that became known with the last r of t ticks
-pub record WorkPost (m : Machine) (s : Span) (r t : ℕ) (recent : List ℕ) (base : ℕ) (values : List ℕ) (at : ℕ) (b : List ℕ) (x : Retired) (b′ : List ℕ) : Type 0 where
-  pub keeps : Keeps at b x b′
-  pub result : (T : Trace) → Shows T t s recent base values → r ≤ t → m ≡ machineOf (stateAt T (t - r - 178))
+pub record WorkPost (x : Rows) (c : Counts) (s : Span) (r t : ℕ) (recent : List ℕ) (base : ℕ) (values : List ℕ) (at : ℕ) (b : List ℕ) (x′ : Rows) (c′ : Counts) (e : ℕ) (b′ : List ℕ) : Type 0 where
+  pub keeps : Keeps at b (record { machine = machineAt x′ c′; at = e }) b′
+  pub result : Sized x → (T : Trace) → Shows T t s recent base values → r ≤ t → machineAt x c ≡ machineOf (stateAt T (t - r - 178))
       → (l : List Reply) → stateAt T (t - 178) .done ≡ stateAt T (t - r - 178) .done ++ l → at + 18 * length l ≤ length b
-      → Gives l (stateAt T (t - 178)) at b x b′
+      → Worked l (stateAt T (t - 178)) at b x′ c′ e b′
 
 -- the bits of x from 64-r on
 pub record TopPost (x r y : ℕ) : Type 0 where
@@ -187,27 +200,28 @@ pub record Next (T P Q : Trace) (t : ℕ) (recent : List ℕ) (base : ℕ) (valu
   pub room : 18 * length (fresh standard T (P ⧺ Q)) ≤ length b₀
   pub same : length b ≡ length b₀
 
-pub record BlockPost (o : Run) (x : Planes) (r t : ℕ) (recent : List ℕ) (base : ℕ) (values : List ℕ) (b : List ℕ) (y : Run) (b′ : List ℕ) : Type 0 where
+-- the run that the columns stand for
+abbrev pub runOf : Rows → Stand → Run
+runOf x o = record { front = o .front; machine = machineAt x (o .counts); at = o .at }
+
+-- the same with the places as columns
+pub record FedColumns (T P : Trace) (b₀ : List ℕ) (x : Rows) (y : Stand) (b : List ℕ) : Type 0 where
+  pub fed : Fed T P b₀ (runOf x y) b
+  pub sized : Sized x
+
+pub record BlockPost (x : Rows) (o : Stand) (p : Planes) (r t : ℕ) (recent : List ℕ) (base : ℕ) (values : List ℕ) (b : List ℕ) (x′ : Rows) (y : Stand) (b′ : List ℕ) : Type 0 where
   pub same : length b′ ≡ length b
-  pub inside : o .at ≤ length b → y .at ≤ length b
-  pub result : (T P Q : Trace) (b₀ : List ℕ) → Fed T P b₀ o b → length (Q .flags) ≡ r → Low (Q .flags) x → Next T P Q t recent base values b₀ b → Fed T (P ⧺ Q) b₀ y b′
+  pub result : (T P Q : Trace) (b₀ : List ℕ) → FedColumns T P b₀ x o b → length (Q .flags) ≡ r → Low (Q .flags) p → Next T P Q t recent base values b₀ b → FedColumns T (P ⧺ Q) b₀ x′ y b′
 
--- no reply is due once t ticks are taken
-pub record NoneDue (m : Machine) (t : ℕ) : Type 0 where
-  pub open-still : 179 ≤ t → test (ended (t - 179)) (m .places .p0) ≡ false
+-- the reply with the first of the F1, if there is one, is not due once t ticks are taken
+pub record Waits (f1s : List ℕ) (t : ℕ) : Type 0 where
+  pub open-still : 179 ≤ t → (r : Reply) → f1 r ≡ getD f1s 0 0 → ended (t - 179) r ≡ false
 
--- a block without flags leaves the run as it is: its words are 0, and no reply is due once t ticks are taken
-pub record Stays (o : Run) (x : Planes) (t : ℕ) : Type 0 where
+-- a block without flags leaves words and columns as they are: the words are 0, and no reply is due once t ticks are taken
+pub record Stays (f : Front) (f1s : List ℕ) (x : Planes) (t : ℕ) : Type 0 where
   pub planes : bare x ≡ true
-  pub words : still (o .front) ≡ true
-  pub waits : NoneDue (o .machine) t
-
--- the flags of 64 ticks past the end, and the values there: any beyond a list are 0
-abbrev pub noFlags : Planes
-noFlags = record { a = 0; p = 0; n = 0; m = 0 }
-
-abbrev pub noValues : List ℕ
-noValues = 0 ∷ []
+  pub words : still f ≡ true
+  pub waits : Waits f1s t
 
 -- ---- a piece
 
@@ -224,6 +238,34 @@ pub record Begins (T : Trace) (o : Run) (recent : List ℕ) (base : ℕ) (flags 
   pub bytes-piece : All (λ v. v ≤ 255) values
   pub limit : base + length flags ≤ sweepLimit
   pub room : takeRoom (length flags) ≤ length b₀
+
+-- the first n ticks of a piece
+abbrev pub upTo : List ℕ → List ℕ → ℕ → Trace
+upTo flags values n = record { flags = take n flags; values = take n values }
+
+-- o is where flags and values begin, behind the trace T: at each of their ticks edges stand within the limit of a sweep, the values are at hand, and the buffer b₀ has room
+pub record Enters (T : Trace) (o : Run) (recent : List ℕ) (base : ℕ) (flags values b₀ : List ℕ) : Type 0 where
+  pub front : o .front ≡ frontOf (T .flags)
+  pub machine : o .machine ≡ machineOf (stateAt T (length (T .flags) - 178))
+  pub place : o .at ≡ 0
+  pub ticks : length (T .flags) ≡ base
+  pub alike : length (T .flags) ≡ length (T .values)
+  pub alike-piece : length flags ≡ length values
+  pub bounded : (n : ℕ) → n ≤ length flags → Bounded (T ⧺ upTo flags values n)
+  pub reads : (n : ℕ) → n ≤ length flags → Reads (T ⧺ upTo flags values n) (base + n) recent base values
+  pub room : (n : ℕ) → n ≤ length flags → 18 * length (fresh standard T (upTo flags values n)) ≤ length b₀
+
+pub record BlocksPost (x : Rows) (o : Stand) (recent : List ℕ) (base : ℕ) (flags values b : List ℕ) (x′ : Rows) (y : Stand) (b′ : List ℕ) : Type 0 where
+  pub same : length b′ ≡ length b
+  pub result : Sized x → (T : Trace) → Enters T (runOf x o) recent base flags values b → FedColumns T (record { flags = flags; values = values }) b x′ y b′
+
+pub record ColumnsPost (x : Rows) (o : Stand) (recent : List ℕ) (base : ℕ) (flags values b : List ℕ) (x′ : Rows) (y : Stand) (b′ : List ℕ) : Type 0 where
+  pub same : length b′ ≡ length b
+  pub result : Sized x → (T : Trace) → Begins T (runOf x o) recent base flags values b → FedColumns T (record { flags = flags; values = values }) b x′ y b′
+
+pub record RunPost (o : Run) (recent : List ℕ) (base : ℕ) (flags values b : List ℕ) (y : Run) (b′ : List ℕ) : Type 0 where
+  pub same : length b′ ≡ length b
+  pub result : (T : Trace) → Enters T o recent base flags values b → Fed T (record { flags = flags; values = values }) b y b′
 
 pub record FeedPost (o : Run) (recent : List ℕ) (base : ℕ) (flags values b : List ℕ) (y : Run) (b′ : List ℕ) : Type 0 where
   pub same : length b′ ≡ length b

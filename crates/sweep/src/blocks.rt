@@ -2,7 +2,7 @@
 ghost use Prim.Native.Nat.{_<_, _≤_};
 ghost use mathlib.Core.Path.{_≡_};
 ghost use mathlib.Core.Bool.{true};
-ghost use Rattle.sweep.specs.Steps.{VisitPost, WorkPost, bare, NoneDue, Stays, BlockPost, noFlags, noValues};
+ghost use Rattle.sweep.specs.Steps.{VisitPost, LatePost, WorkPost, bare, Waits, Stays, BlockPost};
 use super::front::Front;
 use super::front::advance;
 use super::front::is_still;
@@ -17,19 +17,23 @@ use super::values::value_at;
 use edges::packing::Planes;
 use edges::words::lowest;
 use edges::words::without_lowest;
-use lanes::columns::places_of;
 use lanes::steps;
-use lanes::steps::load;
-use records::Retired;
-use records::due_any;
-use records::retire;
+use lanes::steps::mask;
+use replies::ended;
 use rules::Counts;
 use rules::Machine;
 
-// A piece on its way through: the words and the machine so far, and the place in the buffer behind the last record.
+// A piece on its way through, its machine apart from the processor: the words and the machine so far, and the place in the buffer behind the last record.
 pub struct Run {
     pub front: Front,
     pub machine: Machine,
+    pub at: usize,
+}
+
+// The same while the places stand as columns.
+pub struct Stand {
+    pub front: Front,
+    pub counts: Counts,
     pub at: usize,
 }
 
@@ -72,9 +76,33 @@ fn visit(
     Visited { counts, at: end }
 }
 
-// The machine at the last r ticks of the span: as columns, where an edge is due.
+// Hands out what is due once t ticks are taken. The place in the buffer behind it.
+fn hand_late(
+    f1: &mut [u32; 4],
+    marks: &mut [u16; 4],
+    row: &mut [u16; 24],
+    level: &mut [f64; 4],
+    on: &mut [u64; 8],
+    t: u32,
+    out: &mut [u8],
+    at: usize,
+) -> usize
+    ensures { λ r. ⌜ LatePost (record { f1 = now (f1 .entry); marks = now (marks .entry); row = now (row .entry); level = now (level .entry); on = now (on .entry) }) t at (now (out .entry)) (record { f1 = now (f1 .exit); marks = now (marks .exit); row = now (row .exit); level = now (level .exit); on = now (on .exit) }) r (now (out .exit)) ⌝ }
+{
+    if t < 179 {
+        return at;
+    }
+    steps::hand_out(f1, marks, row, level, on, t - 179, out, at)
+}
+
+// The columns at the last r ticks of the span, once t ticks are taken.
 fn work(
-    m: Machine,
+    f1: &mut [u32; 4],
+    marks: &mut [u16; 4],
+    row: &mut [u16; 24],
+    level: &mut [f64; 4],
+    on: &mut [u64; 8],
+    c: Counts,
     s: Span,
     r: u32,
     t: u32,
@@ -83,34 +111,26 @@ fn work(
     values: &[u8],
     out: &mut [u8],
     at: usize,
-) -> Retired
+) -> Visited
     requires { ⌜ (0 < r) × (r ≤ 64) × (t < 65000) ⌝ }
-    ensures { λ x. ⌜ WorkPost m s r t (now (recent .entry)) base (now (values .entry)) at (now (out .entry)) x (now (out .exit)) ⌝ }
+    ensures { λ x. ⌜ WorkPost (record { f1 = now (f1 .entry); marks = now (marks .entry); row = now (row .entry); level = now (level .entry); on = now (on .entry) }) c s r t (now (recent .entry)) base (now (values .entry)) at (now (out .entry)) (record { f1 = now (f1 .exit); marks = now (marks .exit); row = now (row .exit); level = now (level .exit); on = now (on .exit) }) (x .counts) (x .at) (now (out .exit)) ⌝ }
 {
     let mut todo = top(s.due, r);
     if todo == 0 {
-        if t < 179 {
-            return Retired { machine: m, at };
-        }
-        return retire(m, t - 179, out, at);
+        let end = hand_late(f1, marks, row, level, on, t, out, at);
+        return Visited { counts: c, at: end };
     }
-    let mut f1 = [4294967295u32; 4];
-    let mut marks = [0u16; 4];
-    let mut row = [0u16; 24];
-    let mut level = [0.0f64; 4];
-    let mut on = [0u64; 8];
-    let f = m.places;
-    load(&mut f1, &mut marks, &mut row, &mut level, &mut on, f, t);
-    let mut counts = m.counts;
+    mask(f1, marks, on, t);
+    let mut counts = c;
     let mut place = at;
     while todo != 0 {
         let i = lowest(todo);
         let v = visit(
-            &mut f1,
-            &mut marks,
-            &mut row,
-            &mut level,
-            &mut on,
+            f1,
+            marks,
+            row,
+            level,
+            on,
             counts,
             s,
             i,
@@ -126,28 +146,8 @@ fn work(
         place = v.at;
         todo = without_lowest(todo);
     }
-    if t < 179 {
-        let places = places_of(&f1, &marks, &row, &level);
-        return Retired {
-            machine: Machine { places, counts },
-            at: place,
-        };
-    }
-    let end = steps::retire(
-        &mut f1,
-        &mut marks,
-        &mut row,
-        &mut level,
-        &mut on,
-        t - 179,
-        out,
-        place,
-    );
-    let places = places_of(&f1, &marks, &row, &level);
-    Retired {
-        machine: Machine { places, counts },
-        at: end,
-    }
+    let end = hand_late(f1, marks, row, level, on, t, out, place);
+    Visited { counts, at: end }
 }
 
 // Whether none of the planes has a flag.
@@ -158,33 +158,36 @@ fn is_bare(x: Planes) -> bool
 }
 
 // Whether no reply is due once t ticks are taken.
-pub fn none_due(m: Machine, t: u32) -> bool
-    ensures { λ r. ⌜ (r ≡ true → NoneDue m t) ⌝ }
+pub fn none_due(f1: &[u32; 4], t: u32) -> bool
+    ensures { λ r. ⌜ (r ≡ true → Waits (now (f1 .entry)) t) ⌝ }
 {
     if t < 179 {
         return true;
     }
-    !due_any(m, t - 179)
+    !ended(f1[0], t - 179)
 }
 
-// Whether a block of these planes leaves the run as it is, once t ticks are taken.
-pub fn stays(o: Run, x: Planes, t: u32) -> bool
-    ensures { λ r. ⌜ (r ≡ true → Stays o x t) ⌝ }
+// Whether a block of these planes leaves words and columns as they are, once t ticks are taken.
+pub fn stays(f: Front, f1: &[u32; 4], x: Planes, t: u32) -> bool
+    ensures { λ r. ⌜ (r ≡ true → Stays f (now (f1 .entry)) x t) ⌝ }
 {
-    let front = o.front;
-    let machine = o.machine;
     if !is_bare(x) {
         return false;
     }
-    if !is_still(front) {
+    if !is_still(f) {
         return false;
     }
-    none_due(machine, t)
+    none_due(f1, t)
 }
 
-// The run after r ticks more, whose flags are the r low bits of x; they make t ticks.
+// The columns after r ticks more, whose flags are the r low bits of x; they make t ticks.
 pub fn block(
-    o: Run,
+    f1: &mut [u32; 4],
+    marks: &mut [u16; 4],
+    row: &mut [u16; 24],
+    level: &mut [f64; 4],
+    on: &mut [u64; 8],
+    o: Stand,
     x: Planes,
     r: u32,
     t: u32,
@@ -192,60 +195,21 @@ pub fn block(
     base: u32,
     values: &[u8],
     out: &mut [u8],
-) -> Run
+) -> Stand
     requires { ⌜ (0 < r) × (r ≤ 64) × (t < 65000) ⌝ }
-    ensures { λ y. ⌜ BlockPost o x r t (now (recent .entry)) base (now (values .entry)) (now (out .entry)) y (now (out .exit)) ⌝ }
+    ensures { λ y. ⌜ BlockPost (record { f1 = now (f1 .entry); marks = now (marks .entry); row = now (row .entry); level = now (level .entry); on = now (on .entry) }) o x r t (now (recent .entry)) base (now (values .entry)) (now (out .entry)) (record { f1 = now (f1 .exit); marks = now (marks .exit); row = now (row .exit); level = now (level .exit); on = now (on .exit) }) y (now (out .exit)) ⌝ }
 {
-    if stays(o, x, t) {
-        return o;
-    }
     let before = o.front;
-    let machine = o.machine;
+    let counts = o.counts;
     let front = advance(before, x, r);
     let s = span_of(front);
-    let todo = top(s.due, r);
-    if todo == 0 {
-        if none_due(machine, t) {
-            return Run {
-                front,
-                machine,
-                at: o.at,
-            };
-        }
-    }
-    let v = work(machine, s, r, t, recent, base, values, out, o.at);
-    let after = v.machine;
-    Run {
+    let v = work(
+        f1, marks, row, level, on, counts, s, r, t, recent, base, values, out, o.at,
+    );
+    let after = v.counts;
+    Stand {
         front,
-        machine: after,
-        at: v.at,
-    }
-}
-
-// The run after 64 ticks of zeros past the end of a sweep; they make t ticks.
-pub fn silent_block(o: Run, t: u32, recent: &[u8; 256], base: u32, out: &mut [u8]) -> Run
-    requires { ⌜ t < 65000 ⌝ }
-    ensures { λ y. ⌜ BlockPost o noFlags 64 t (now (recent .entry)) base noValues (now (out .entry)) y (now (out .exit)) ⌝ }
-{
-    let zero = [0u8; 1];
-    let x = Planes {
-        a: 0,
-        p: 0,
-        n: 0,
-        m: 0,
-    };
-    if stays(o, x, t) {
-        return o;
-    }
-    let before = o.front;
-    let machine = o.machine;
-    let front = advance(before, x, 64);
-    let s = span_of(front);
-    let v = work(machine, s, 64, t, recent, base, &zero, out, o.at);
-    let after = v.machine;
-    Run {
-        front,
-        machine: after,
+        counts: after,
         at: v.at,
     }
 }

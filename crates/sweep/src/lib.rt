@@ -14,6 +14,7 @@ ghost use Rattle.sweep.specs.Post.{openOf, noTotals, TakePost, QuietPost
 ghost use Rattle.sweep.specs.declared.Answer.the-variants.{Refused};
 ghost use Rattle.sweep.specs.Steps.{totalsFrom};
 pub use blocks::Run;
+pub use blocks::Stand;
 use blocks::none_due;
 use edges::flags::has_bad;
 use edges::flags::is_bare;
@@ -22,7 +23,8 @@ use front::is_still;
 use front::no_front;
 use machine::empty_machine;
 use pieces::drain;
-pub use pieces::feed;
+pub use pieces::feed_columns;
+use pieces::feed;
 use rules::Counts;
 use rules::Machine;
 use rules::Totals;
@@ -178,13 +180,10 @@ pub fn take(p: Processor, flags: &[u8], values: &[u8], out: &mut [u8]) -> Taken
     }
 }
 
-// Whether taking these flags changes nothing but the count of ticks and the kept values: no flag is set, no word has a bit, no reply becomes due.
-pub fn is_quiet(p: Processor, flags: &[u8]) -> bool
-    ensures { λ r. ⌜ QuietPost p (now (flags .entry)) r ⌝ }
+// Whether these flags, behind `base` ticks, change nothing but the count of ticks and the kept values: no flag is set, no word has a bit, no reply becomes due.
+pub fn is_quiet(f: Front, f1: &[u32; 4], base: u32, flags: &[u8]) -> bool
+    ensures { λ r. ⌜ QuietPost f (now (f1 .entry)) base (now (flags .entry)) r ⌝ }
 {
-    let base = p.taken;
-    let front = p.front;
-    let machine = p.machine;
     let more = flags.len();
     if 4096 < more {
         return false;
@@ -193,13 +192,13 @@ pub fn is_quiet(p: Processor, flags: &[u8]) -> bool
     if 32768 < t {
         return false;
     }
-    if !is_still(front) {
-        return false;
-    }
     if !is_bare(flags) {
         return false;
     }
-    none_due(machine, t as u32)
+    if !is_still(f) {
+        return false;
+    }
+    none_due(f1, t as u32)
 }
 
 // The totals, from the machine's counts.

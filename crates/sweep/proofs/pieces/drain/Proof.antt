@@ -1,60 +1,31 @@
--- `drain` takes 448 zeros past the end. The invariant: 64 times i of them are through.
-use Prim.Native.Nat.{_-_}
+-- `drain` feeds 448 zeros.
 use native.Mathlib.Omega.{arith}
 use mathlib.Core.Path.{refl}
-use Rattle.sweep.proofs.Streaming.{Draining, drain-start, drain-next, drain-end}
+use Rattle.sweep.proofs.Streaming.{drain-law}
 use Rattle.sweep.proofs.pieces.drain.Statement.{statement}
 use Rattle.sweep.proofs.pieces.drain.Tie as tie
 
-abbrev Inv-loop : tie.InvT-loop
-Inv-loop recent base out₀ run₀ i₀ out run i = Draining run₀ recent base out₀ out run i
+slice-aggregate-feed-run : tie.Need-slice-aggregate-feed-run
+slice-aggregate-feed-run c = refl
 
-abbrev μ-loop : tie.MeasureT-loop
-μ-loop recent base out₀ run₀ i₀ out run i = 7 - i
+slice-aggregate-feed-run-2 : tie.Need-slice-aggregate-feed-run-2
+slice-aggregate-feed-run-2 c = refl
 
-loop-holds : tie.Need-loop-holds Inv-loop μ-loop
-loop-holds c = drain-start (c .before .args .o) (c .before .args .recent .now) (c .before .args .base) (c .before .args .out .now)
+feed-run-requires : tie.Need-feed-run-requires
+feed-run-requires c κs = omega (arith, c .before .before .before .before .pre)
 
-add-t : tie.Need-add-t Inv-loop μ-loop
-add-t c = omega arith
+same-length : tie.Need-same-length
+same-length c = c .before .before .feed-run .ensures .same
 
-mul-t : tie.Need-mul-t Inv-loop μ-loop
-mul-t c = omega arith
-
-add-t-2 : tie.Need-add-t-2 Inv-loop μ-loop
-add-t-2 c = omega arith
-
-silent-block-requires : tie.Need-silent-block-requires Inv-loop μ-loop
-silent-block-requires c κs = omega arith
-
-add-i : tie.Need-add-i Inv-loop μ-loop
-add-i c = omega arith
-
-loop-less : tie.Need-loop-less Inv-loop μ-loop
-loop-less c = omega arith
-
-loop-again : tie.Need-loop-again Inv-loop μ-loop
-loop-again c = drain-next (c .before .before .before .before .before .before .before .args .o) (c .before .before .before .before .before .before .before .args .recent .now) (c .before .before .before .before .before .before .before .args .base) (c .before .before .before .before .before .before .before .args .out .now) (c .before .before .before .before .before .loop .out) (c .before .before .before .before .before .loop .run) (c .before .before .before .before .before .loop .i) _ _ (c .before .before .silent-block .result) _ (c .before .before .before .before .loop-test .taken) refl refl (c .before .before .silent-block .ensures) (c .before .before .before .before .before .loop .inv)
-
-same-length : tie.Need-same-length Inv-loop μ-loop
-same-length c = c .before .loop .inv .same
-
-returns : tie.Need-returns Inv-loop μ-loop
-returns c = drain-end (c .before .before .before .args .o) (c .before .before .before .args .recent .now) (c .before .before .before .args .base) (c .before .before .before .args .out .now) (c .before .loop .out) (c .before .loop .run) (c .before .loop .i) (c .loop-test .left) (c .before .loop .inv)
+returns : tie.Need-returns
+returns c = drain-law (c .before .before .before .before .before .before .before .args .o) (c .before .before .before .before .before .before .before .args .recent .now) (c .before .before .before .before .before .before .before .args .base) (c .before .before .before .before .before .before .before .args .out .now) _ _ (c .before .before .feed-run .ensures)
 
 pub drain-spec : {M : Type 1} → statement M
 drain-spec =
     tie.close
     (tie.spec
-    Inv-loop
-    μ-loop
-    loop-holds
-    add-t
-    mul-t
-    add-t-2
-    silent-block-requires
-    add-i
-    loop-less
-    loop-again
+    slice-aggregate-feed-run
+    slice-aggregate-feed-run-2
+    feed-run-requires
     same-length
     returns)

@@ -1,94 +1,23 @@
--- `feed` takes a piece block by block. The invariant: i ticks of it are through.
-use Prim.Native.Nat.{_-_}
+-- `feed` feeds a piece within the limit of a sweep.
 use native.Mathlib.Omega.{arith}
-use mathlib.Core.Path.{refl}
-use lib.ListN.{length}
-use Rattle.sweep.proofs.Streaming.{Feeding, feed-start, feed-next, feed-over, feed-end}
-use Rattle.sweep.proofs.Staying.{stays-law}
+use Rattle.sweep.proofs.Streaming.{feed-over, feed-law}
 use Rattle.sweep.proofs.pieces.feed.Statement.{statement}
 use Rattle.sweep.proofs.pieces.feed.Tie as tie
 
-abbrev Inv-loop : tie.InvT-loop
-Inv-loop recent base flags values out₀ n run₀ i₀ out run i = Feeding run₀ recent base flags values out₀ out run i
-
-abbrev μ-loop : tie.MeasureT-loop
-μ-loop recent base flags values out₀ n run₀ i₀ out run i = length flags - i
-
-add-if1 : tie.Need-add-if1 Inv-loop μ-loop
+add-if1 : tie.Need-add-if1
 add-if1 c = omega arith
 
-returns : tie.Need-returns Inv-loop μ-loop
+returns : tie.Need-returns
 returns c = feed-over (c .before .before .before .before .args .o) (c .before .before .before .before .args .recent .now) (c .before .before .before .before .args .base) (c .before .before .before .before .args .flags .now) (c .before .before .before .before .args .values .now) (c .before .before .before .before .args .out .now) (c .if1 .taken)
 
-loop-holds : tie.Need-loop-holds Inv-loop μ-loop
-loop-holds c = feed-start (c .before .before .before .before .args .o) (c .before .before .before .before .args .recent .now) (c .before .before .before .before .args .base) (c .before .before .before .before .args .flags .now) (c .before .before .before .before .args .values .now) (c .before .before .before .before .args .out .now)
+feed-run-requires : tie.Need-feed-run-requires
+feed-run-requires c κs = omega (arith, c .before .if1 .left)
 
-sub-block-length : tie.Need-sub-block-length Inv-loop μ-loop
-sub-block-length c = omega arith
+same-length : tie.Need-same-length
+same-length c = c .before .before .feed-run .ensures .same
 
-block-length-requires : tie.Need-block-length-requires Inv-loop μ-loop
-block-length-requires c κs = tt
-
-packed-requires : tie.Need-packed-requires Inv-loop μ-loop
-packed-requires c κs = omega (arith, c .block-length .ensures .1)
-
-add-next : tie.Need-add-next Inv-loop μ-loop
-add-next c = omega arith
-
-cast-t : tie.Need-cast-t Inv-loop μ-loop
-cast-t c = omega arith
-
-add-t : tie.Need-add-t Inv-loop μ-loop
-add-t c = omega arith
-
-stays-requires : tie.Need-stays-requires Inv-loop μ-loop
-stays-requires c κs = tt
-
-loop-less : tie.Need-loop-less Inv-loop μ-loop
-loop-less c = omega (arith, c .before .before .before .block-length .ensures .1 .1 .0, c .before .before .before .block-length .ensures .1 .1 .1 (omega arith), c .before .before .before .before .before .loop .inv .most)
-
-loop-again : tie.Need-loop-again Inv-loop μ-loop
-loop-again c = feed-next (c .before .before .before .before .before .before .before .before .before .before .args .o) (c .before .before .before .before .before .before .before .before .before .before .args .recent .now) (c .before .before .before .before .before .before .before .before .before .before .args .base) (c .before .before .before .before .before .before .before .before .before .before .args .flags .now) (c .before .before .before .before .before .before .before .before .before .before .args .values .now) (c .before .before .before .before .before .before .before .before .before .before .args .out .now) (c .before .before .before .before .before .loop .out) (c .before .before .before .before .before .loop .run) (c .before .before .before .before .before .loop .i) (c .before .before .before .block-length .result) _ _ (c .before .before .before .before .before .loop .run) (c .before .before .before .before .before .loop .out) (omega (arith, c .before .before .before .block-length .ensures .1 .1 .0)) refl (c .before .before .packed .ensures) (stays-law (c .before .before .before .before .before .loop .run) _ _ _ (c .before .before .before .before .before .before .before .before .before .before .args .recent .now) (c .before .before .before .before .before .before .before .before .before .before .args .base) (c .before .before .before .before .before .before .before .before .before .before .args .values .now) (c .before .before .before .before .before .loop .out) (c .before .before .before .block-length .ensures .1 .0) (c .before .stays .ensures (c .if2 .taken))) (c .before .before .before .before .before .loop .inv)
-
-cast-block : tie.Need-cast-block Inv-loop μ-loop
-cast-block c = omega arith
-
-block-requires : tie.Need-block-requires Inv-loop μ-loop
-block-requires c κs = omega (arith, c .before .before .before .before .block-length .ensures .1 .0, c .before .before .before .before .block-length .ensures .1 .1 .0, c .before .before .before .before .block-length .ensures .1 .1 .1 (omega arith), c .before .before .before .before .before .before .loop .inv .most, c .before .before .before .before .before .before .before .if1 .left)
-
-loop-less-2 : tie.Need-loop-less-2 Inv-loop μ-loop
-loop-less-2 c = omega (arith, c .before .before .before .before .before .before .before .block-length .ensures .1 .1 .0, c .before .before .before .before .before .before .before .block-length .ensures .1 .1 .1 (omega arith), c .before .before .before .before .before .before .before .before .before .loop .inv .most)
-
-loop-again-2 : tie.Need-loop-again-2 Inv-loop μ-loop
-loop-again-2 c = feed-next (c .before .before .before .before .before .before .before .before .before .before .before .before .before .before .args .o) (c .before .before .before .before .before .before .before .before .before .before .before .before .before .before .args .recent .now) (c .before .before .before .before .before .before .before .before .before .before .before .before .before .before .args .base) (c .before .before .before .before .before .before .before .before .before .before .before .before .before .before .args .flags .now) (c .before .before .before .before .before .before .before .before .before .before .before .before .before .before .args .values .now) (c .before .before .before .before .before .before .before .before .before .before .before .before .before .before .args .out .now) (c .before .before .before .before .before .before .before .before .before .loop .out) (c .before .before .before .before .before .before .before .before .before .loop .run) (c .before .before .before .before .before .before .before .before .before .loop .i) (c .before .before .before .before .before .before .before .block-length .result) _ _ (c .before .before .block .result) _ (omega (arith, c .before .before .before .before .before .before .before .block-length .ensures .1 .1 .0)) refl (c .before .before .before .before .before .before .packed .ensures) (c .before .before .block .ensures) (c .before .before .before .before .before .before .before .before .before .loop .inv)
-
-same-length : tie.Need-same-length Inv-loop μ-loop
-same-length c = c .before .loop .inv .same
-
-returns-2 : tie.Need-returns-2 Inv-loop μ-loop
-returns-2 c = feed-end (c .before .before .before .before .before .before .args .o) (c .before .before .before .before .before .before .args .recent .now) (c .before .before .before .before .before .before .args .base) (c .before .before .before .before .before .before .args .flags .now) (c .before .before .before .before .before .before .args .values .now) (c .before .before .before .before .before .before .args .out .now) (c .before .loop .out) (c .before .loop .run) (c .before .loop .i) (c .loop-test .left) (c .before .loop .inv)
+returns-2 : tie.Need-returns-2
+returns-2 c = feed-law (c .before .before .before .before .before .before .before .before .args .o) (c .before .before .before .before .before .before .before .before .args .recent .now) (c .before .before .before .before .before .before .before .before .args .base) (c .before .before .before .before .before .before .before .before .args .flags .now) (c .before .before .before .before .before .before .before .before .args .values .now) (c .before .before .before .before .before .before .before .before .args .out .now) _ _ (c .before .before .feed-run .ensures)
 
 pub feed-spec : {M : Type 1} → statement M
-feed-spec =
-    tie.close
-    (tie.spec
-    Inv-loop
-    μ-loop
-    add-if1
-    returns
-    loop-holds
-    sub-block-length
-    block-length-requires
-    packed-requires
-    add-next
-    cast-t
-    add-t
-    stays-requires
-    loop-less
-    loop-again
-    cast-block
-    block-requires
-    loop-less-2
-    loop-again-2
-    same-length
-    returns-2)
+feed-spec = tie.close (tie.spec add-if1 returns feed-run-requires same-length returns-2)
