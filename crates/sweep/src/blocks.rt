@@ -204,7 +204,20 @@ pub fn block(
     let front = advance(before, x, r);
     let s = span_of(front);
     let v = work(
-        f1, marks, row, level, on, counts, s, r, t, recent, base, values, out, o.at,
+        f1,
+        marks,
+        row,
+        level,
+        on,
+        counts,
+        s,
+        r,
+        t,
+        recent,
+        base,
+        values,
+        out,
+        o.at,
     );
     let after = v.counts;
     Stand {

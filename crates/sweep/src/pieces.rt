@@ -78,7 +78,19 @@ fn feed_blocks(
             continue;
         }
         let y = block(
-            f1, marks, row, level, on, run, x, r as u32, t, recent, base, values, out,
+            f1,
+            marks,
+            row,
+            level,
+            on,
+            run,
+            x,
+            r as u32,
+            t,
+            recent,
+            base,
+            values,
+            out,
         );
         run = y;
         i = next;
@@ -106,7 +118,17 @@ pub fn feed_columns(
         return o;
     }
     feed_blocks(
-        f1, marks, row, level, on, o, recent, base, flags, values, out,
+        f1,
+        marks,
+        row,
+        level,
+        on,
+        o,
+        recent,
+        base,
+        flags,
+        values,
+        out,
     )
 }
 
@@ -138,7 +160,17 @@ fn feed_run(
         at: o.at,
     };
     let y = feed_blocks(
-        &mut f1, &mut marks, &mut row, &mut level, &mut on, first, recent, base, flags, values, out,
+        &mut f1,
+        &mut marks,
+        &mut row,
+        &mut level,
+        &mut on,
+        first,
+        recent,
+        base,
+        flags,
+        values,
+        out,
     );
     let places = places_of(&f1, &marks, &row, &level);
     let front2 = y.front;

@@ -23,19 +23,24 @@ use Rattle.rules.proofs.Buffers.{over-at-more}
 use Rattle.rules.proofs.Joining.{handed-fresh, handed-rest, handed-done, records-append, records-length}
 use Rattle.rules.proofs.HandingOut.{fresh-most, rest-most}
 use Rattle.frames.specs.Writing.{totalsBytes}
+use lib.Ieee.{Float}
+use Rattle.rules.specs.declared.Places.{Places}
+use Rattle.lanes.specs.Columns.{Rows, Sized, placesOf}
+use Rattle.lanes.specs.Post.{LoadPost}
 use Rattle.sweep.specs.declared.Answer.{Answer}
 use Rattle.sweep.specs.declared.Answer.the-variants.{Accepted, Refused}
 use Rattle.sweep.specs.declared.Processor.{Processor}
 use Rattle.sweep.specs.declared.Closed.{Closed}
-use Rattle.sweep.specs.declared.blocks.Run.{Run}
+use Rattle.sweep.specs.declared.blocks.Stand.{Stand}
 use Rattle.sweep.specs.State.{Sweep, none, running, runningProcessor, processorOf, Within, Made}
 use Rattle.sweep.specs.Post.{takeVerdict, closeVerdict, closeAs, closeBufferAs, QuietPost, ClosePost}
-use Rattle.sweep.specs.Steps.{KeepPost}
+use Rattle.sweep.specs.Steps.{ColumnsPost, KeepPost}
 use Rattle.sweep.proofs.Answers.{standard-allowed}
-use Rattle.sweep.proofs.Operations.{taken-of}
+use Rattle.sweep.proofs.Operations.{mode-of, azimuth-of, front-of, recent-of, machine-of}
+use Rattle.sweep.proofs.Working.{loaded}
 use Rattle.whole.specs.declared.Reached.{Reached}
-use Rattle.whole.specs.Post.{wholeRoom, FeedAtPost, Taken, Takes, TakeAllPost, CloseAtPost}
-use Rattle.whole.proofs.Pieces.{isRefused, countIn, over-rest, mid-is, post-is, Reaches, TakesAt, piece-fed, piece-quiet}
+use Rattle.whole.specs.Post.{wholeRoom, Taken, Takes, TakeAllPost, CloseAtPost}
+use Rattle.whole.proofs.Pieces.{isRefused, countIn, over-rest, mid-is, post-is, processorAt, Reaches, TakesAt, q, piece-fed, piece-quiet}
 
 -- ---- lists
 
@@ -113,31 +118,43 @@ up-all T n e a =
 
 -- ---- one piece more
 
-pub record Takings (p : Processor) (T : Trace) (piece : ℕ) (b₀ : List ℕ) (q : Processor) (at i : ℕ) (b : List ℕ) : Type 0 where
+pub record Takings (p : Processor) (T : Trace) (piece : ℕ) (b₀ : List ℕ) (x : Rows) (y : Stand) (recent : List ℕ) (at i : ℕ) (b : List ℕ) : Type 0 where
   pub size : length b ≡ length b₀
   pub inside : at ≤ length b₀
   pub reach : i ≤ length (T .flags)
+  pub start : y .at ≡ 0
   pub result : (mode azimuth : ℕ) → p ≡ runningProcessor mode azimuth (record { flags = []; values = [] }) → Takes mode T piece b₀
-      → Taken mode azimuth (upTo i T) b₀ (record { processor = q; at = at }) b
+      → Taken mode azimuth (upTo i T) b₀ (record { processor = processorAt p x y recent i; at = at }) b × Sized x
 
 module _ (p : Processor) (T : Trace) (piece : ℕ) (b₀ : List ℕ) (alike : length (T .flags) ≡ length (T .values)) where
-  pub takings-start : Takings p T piece b₀ p 0 0 b₀
-  unfolding over records
-  takings-start =
+  -- the places of the opened sweep are written to columns
+  pub takings-start : (f n w : List ℕ) (v : List Float) (on f′ n′ w′ : List ℕ) (v′ : List Float) → Sized (record { f1 = f; marks = n; row = w; level = v; on = on })
+      → LoadPost f n w v (p .machine .places) f′ n′ w′ v′
+      → Takings p T piece b₀ (record { f1 = f′; marks = n′; row = w′; level = v′; on = on }) (record { front = p .front; counts = p .machine .counts; at = 0 }) (p .recent) 0 0 b₀
+  unfolding over records runningProcessor
+  takings-start f n w v on f′ n′ w′ v′ z load =
       record {
         size = refl;
         inside = omega arith;
         reach = omega arith;
+        start = refl;
         result = λ mode azimuth e t.
-            record {
-              processor = e;
+            let l = loaded (p .machine) nothing 0 (omega arith) (machine-of mode azimuth nothing p e) f n w v f′ n′ w′ v′ on load z in
+            let e1 = mode-of mode azimuth nothing p e in
+            let e2 = azimuth-of mode azimuth nothing p e in
+            let e4 = front-of mode azimuth nothing p e in
+            let e5 = recent-of mode azimuth nothing p e in
+            let e6 : record { places = placesOf (record { f1 = f′; marks = n′; row = w′; level = v′; on = on }); counts = p .machine .counts } ≡ p .machine = λ i. record { places = l .places i; counts = p .machine .counts } in
+            let e7 = e6 ∙ machine-of mode azimuth nothing p e in
+            (record {
+              processor = λ i. record { mode = e1 i; azimuth = e2 i; taken = 0; front = e4 i; recent = e5 i; machine = e7 i };
               place = omega (arith, ap length none-due);
               buffer = ap (λ (l : List Reply). over (records l) b₀) (sym none-due);
-            };
+            }, l .sized);
       }
 
-  module _ (q : Processor) (at i end : ℕ) (b : List ℕ) (h : Takings p T piece b₀ q at i b) (more : i < length (T .flags)) (step : end ≡ i + min piece (length (T .flags) - i))
-      (r : Reached) (b′ : List ℕ) (post : TakesAt q (between i end T) at b r b′) where
+  module _ (x : Rows) (y : Stand) (recent : List ℕ) (at i end : ℕ) (b : List ℕ) (h : Takings p T piece b₀ x y recent at i b) (more : i < length (T .flags))
+      (step : end ≡ i + min piece (length (T .flags) - i)) where
     here : end ≤ length (T .flags)
     here = omega (arith, step)
 
@@ -153,97 +170,96 @@ module _ (p : Processor) (T : Trace) (piece : ℕ) (b₀ : List ℕ) (alike : le
     alike-i : length (upTo i T .flags) ≡ length (upTo i T .values)
     alike-i = size-i ∙ sym (length-take-le i (T .values) (omega (arith, h .reach, alike)))
 
-    module _ (mode azimuth : ℕ) (e : p ≡ runningProcessor mode azimuth (record { flags = []; values = [] })) (t : Takes mode T piece b₀) where
-      before : Taken mode azimuth (upTo i T) b₀ (record { processor = q; at = at }) b
-      before = h .result mode azimuth e t
+    module _ (x′ : Rows) (y′ : Stand) (kept : List ℕ) (to : ℕ) (b′ : List ℕ) (begun : y′ .at ≡ 0)
+        (post : TakesAt (Sized x) (Sized x′) (processorAt p x y recent i) (between i end T) at b (record { processor = processorAt p x′ y′ kept end; at = to }) b′) where
+      module _ (mode azimuth : ℕ) (e : p ≡ runningProcessor mode azimuth (record { flags = []; values = [] })) (t : Takes mode T piece b₀) where
+        before : Taken mode azimuth (upTo i T) b₀ (record { processor = processorAt p x y recent i; at = at }) b
+        before = h .result mode azimuth e t .0
 
-      made : Made (running mode azimuth (upTo i T)) q
-      unfolding processorOf
-      made =
-          record {
-            is = before .processor;
-            sound = record { named = t .named; alike = alike-i; short = omega (arith, size-i, h .reach, t .short); bytes = all-take i (T .values) (t .bytes) };
-          }
+        made : Made (running mode azimuth (upTo i T)) (processorAt p x y recent i)
+        unfolding processorOf
+        made =
+            record {
+              is = before .processor;
+              sound = record { named = t .named; alike = alike-i; short = omega (arith, size-i, h .reach, t .short); bytes = all-take i (T .values) (t .bytes) };
+            }
 
-      room : takeRoom (length (between i end T .flags)) ≤ length b - at
-      room = omega (arith, size-P, size-i, before .place, handed-most (upTo i T), h .size, t .room, here, h .reach, more, step)
+        room : takeRoom (length (between i end T .flags)) ≤ length b - at
+        room = omega (arith, size-P, size-i, before .place, handed-most (upTo i T), h .size, t .room, here, h .reach, more, step)
 
-      accept : takeVerdict (running mode azimuth (upTo i T)) (between i end T) (length b - at) ≡ accepted
-      unfolding takeVerdict takeAnswer
-      accept =
-          rw (
-            eq-eqb (length (between i end T .flags)) (length (between i end T .values)) alike-P,
-            le-ltb pieceLimit (length (between i end T .flags)) (omega (arith, size-P, step, t .most)),
-            le-ltb sweepLimit (length (upTo i T .flags) + length (between i end T .flags)) (omega (arith, size-P, size-i, t .short, here, step)),
-            le-ltb (length b - at) (takeRoom (length (between i end T .flags))) room,
-            any-take bad (end - i) (drop i (T .flags)) (any-drop bad i (T .flags) (t .good)),
-          )
+        accept : takeVerdict (running mode azimuth (upTo i T)) (between i end T) (length b - at) ≡ accepted
+        unfolding takeVerdict takeAnswer
+        accept =
+            rw (
+              eq-eqb (length (between i end T .flags)) (length (between i end T .values)) alike-P,
+              le-ltb pieceLimit (length (between i end T .flags)) (omega (arith, size-P, step, t .most)),
+              le-ltb sweepLimit (length (upTo i T .flags) + length (between i end T .flags)) (omega (arith, size-P, size-i, t .short, here, step)),
+              le-ltb (length b - at) (takeRoom (length (between i end T .flags))) room,
+              any-take bad (end - i) (drop i (T .flags)) (any-drop bad i (T .flags) (t .good)),
+            )
 
-      reached : Reaches mode azimuth (upTo i T) (between i end T) at b r b′
-      reached = post .result mode azimuth (upTo i T) made accept
+        took : Reaches mode azimuth (upTo i T) (between i end T) at b (record { processor = processorAt p x′ y′ kept end; at = to }) b′ × Sized x′
+        took = post .result (h .result mode azimuth e t .1) mode azimuth (upTo i T) made accept
 
-      joined : handed standard (upTo end T) ≡ handed standard (upTo i T) ++ fresh standard (upTo i T) (between i end T)
-      joined =
-          ap (handed standard) (sym (up-more T i end (omega (arith, step)))) ∙ handed-fresh standard standard-allowed (upTo i T) (between i end T) alike-i
+        joined : handed standard (upTo end T) ≡ handed standard (upTo i T) ++ fresh standard (upTo i T) (between i end T)
+        joined =
+            ap (handed standard) (sym (up-more T i end (omega (arith, step)))) ∙ handed-fresh standard standard-allowed (upTo i T) (between i end T) alike-i
 
-      now-taken : Taken mode azimuth (upTo end T) b₀ (record { processor = r .processor; at = r .at }) b′
-      now-taken =
-          let H = handed standard (upTo i T) in
-          let F = fresh standard (upTo i T) (between i end T) in
-          record {
-            processor = reached .processor ∙ ap (runningProcessor mode azimuth) (up-more T i end (omega (arith, step)));
-            place = omega (arith, reached .place, before .place, ap length joined, length-append H F);
-            buffer =
-                reached .buffer ∙ ap (over-at (records F) at) (before .buffer)
-                ∙ over-more (records H) (records F) b₀ at (before .place ∙ sym (records-length H)) (h .inside)
-                ∙ ap (λ (l : List ℕ). over l b₀) (sym (records-append H F) ∙ ap records (sym joined));
-          }
+        now-taken : Taken mode azimuth (upTo end T) b₀ (record { processor = processorAt p x′ y′ kept end; at = to }) b′ × Sized x′
+        now-taken =
+            let H = handed standard (upTo i T) in
+            let F = fresh standard (upTo i T) (between i end T) in
+            let reached = took .0 in
+            (record {
+              processor = reached .processor ∙ ap (runningProcessor mode azimuth) (up-more T i end (omega (arith, step)));
+              place = omega (arith, reached .place, before .place, ap length joined, length-append H F);
+              buffer =
+                  reached .buffer ∙ ap (over-at (records F) at) (before .buffer)
+                  ∙ over-more (records H) (records F) b₀ at (before .place ∙ sym (records-length H)) (h .inside)
+                  ∙ ap (λ (l : List ℕ). over l b₀) (sym (records-append H F) ∙ ap records (sym joined));
+            }, took .1)
 
-    pub takings-next : length b′ ≡ length b → Takings p T piece b₀ (r .processor) (r .at) end b′
-    takings-next l = record { size = l ∙ h .size; inside = omega (arith, post .inside, h .size); reach = here; result = now-taken }
+      takings-next : length b′ ≡ length b → Takings p T piece b₀ x′ y′ kept to end b′
+      takings-next l = record { size = l ∙ h .size; inside = omega (arith, post .inside, h .size); reach = here; start = begun; result = now-taken }
 
-  -- one that is fed, and one that finds nothing
-  module _ (q : Processor) (at i end t : ℕ) (b : List ℕ) (h : Takings p T piece b₀ q at i b) (more : i < length (T .flags)) (step : end ≡ i + min piece (length (T .flags) - i))
-      (ticks : t ≡ q .taken + (end - i)) (bytes : All (λ v. v ≤ 255) (T .values)) (kept : List ℕ) (keeps : KeepPost (q .recent) (between i end T .values) kept) where
-    size-F : length (between i end T .flags) ≡ end - i
-    size-F = length-take-le (end - i) (drop i (T .flags)) (omega (arith, length-drop i (T .flags), step))
+    -- one that is fed, and one that finds nothing
+    module _ (bytes : All (λ v. v ≤ 255) (T .values)) (kept : List ℕ) (keeps : KeepPost recent (between i end T .values) kept) where
+      bytes-P : All (λ v. v ≤ 255) (between i end T .values)
+      bytes-P = all-take (end - i) (drop i (T .values)) (all-drop i (T .values) bytes)
 
-    size-V : length (between i end T .values) ≡ end - i
-    size-V = length-take-le (end - i) (drop i (T .values)) (omega (arith, length-drop i (T .values), step, alike))
+      inside-b : at ≤ length b
+      inside-b = omega (arith, h .inside, h .size)
 
-    bytes-P : All (λ v. v ≤ 255) (between i end T .values)
-    bytes-P = all-take (end - i) (drop i (T .values)) (all-drop i (T .values) bytes)
+      ticks : end ≡ i + length (between i end T .flags)
+      ticks = omega (arith, size-P, step)
 
-    pub takings-fed : (y : Run) (b′ : List ℕ) → FeedAtPost (record { front = q .front; machine = q .machine; at = at }) (q .recent) (q .taken) (between i end T) b y b′
-        → length b′ ≡ length b
-        → Takings p T piece b₀ (record { mode = q .mode; azimuth = q .azimuth; taken = t; front = y .front; recent = kept; machine = y .machine }) (y .at) end b′
-    takings-fed y b′ post l =
-        takings-next q at i end b h more step
-        (record { processor = record { mode = q .mode; azimuth = q .azimuth; taken = t; front = y .front; recent = kept; machine = y .machine }; at = y .at }) b′
-        (piece-fed q (between i end T) at b bytes-P y b′ post t (omega (arith, ticks, size-F)) kept keeps) l
+      pub takings-fed : (x′ : Rows) (z : Stand) (m′ : List ℕ) (to : ℕ) → ColumnsPost x y recent i (between i end T .flags) (between i end T .values) (midOf at (length b - at) b) x′ z m′
+          → to ≡ at + 18 * min (z .at / 18) ((length b - at) / 18) → length (putMid at (length b - at) b m′) ≡ length b
+          → Takings p T piece b₀ x′ (record { front = z .front; counts = z .counts; at = 0 }) kept to end (putMid at (length b - at) b m′)
+      unfolding q
+      takings-fed x′ z m′ to post e l =
+          takings-next x′ (record { front = z .front; counts = z .counts; at = 0 }) kept to (putMid at (length b - at) b m′) refl
+          (piece-fed p x y recent i (between i end T) at b inside-b bytes-P end ticks kept keeps (h .start) x′ z m′ post to e) l
 
-    pub takings-quiet : (r : Bool) → QuietPost q (between i end T .flags) r → r ≡ true
-        → Takings p T piece b₀ (record { mode = q .mode; azimuth = q .azimuth; taken = t; front = q .front; recent = kept; machine = q .machine }) at end b
-    takings-quiet r quiet is =
-        takings-next q at i end b h more step
-        (record { processor = record { mode = q .mode; azimuth = q .azimuth; taken = t; front = q .front; recent = kept; machine = q .machine }; at = at }) b
-        (piece-quiet q (between i end T) at b (omega (arith, h .inside, h .size)) (size-F ∙ sym size-V) bytes-P r quiet is t (omega (arith, ticks, size-F)) kept keeps) refl
+      pub takings-quiet : (r : Bool) → QuietPost (y .front) (x .f1) i (between i end T .flags) r → r ≡ true → Takings p T piece b₀ x y kept at end b
+      unfolding q
+      takings-quiet r quiet is =
+          takings-next x y kept at b (h .start) (piece-quiet p x y recent i (between i end T) at b inside-b bytes-P end ticks kept keeps alike-P r quiet is) refl
 
-  -- a processor whose count of ticks is beyond a sweep's comes from none
-  pub takings-over : (q : Processor) (at i end : ℕ) (b : List ℕ) → i < length (T .flags) → end ≡ i + min piece (length (T .flags) - i) → 32768 < q .taken + (end - i)
-      → Takings p T piece b₀ q at i b → TakeAllPost p T piece b₀ (record { processor = q; at = at }) b
-  takings-over q at i end b more step over h =
-      record {
-        inside = h .inside;
-        result = λ mode azimuth e t. absurd (omega (arith, over, step, t .short, taken-of mode azimuth (upTo i T) q (h .result mode azimuth e t .processor), length-take-le i (T .flags) (h .reach)));
-      }
-
-  pub takings-end : (q : Processor) (at i : ℕ) (b : List ℕ) → length (T .flags) ≤ i → Takings p T piece b₀ q at i b → TakeAllPost p T piece b₀ (record { processor = q; at = at }) b
-  takings-end q at i b l h =
+  pub takings-end : (x : Rows) (y : Stand) (recent : List ℕ) (at i n : ℕ) (b : List ℕ) {g : Places} → length (T .flags) ≤ i → n ≡ length (T .flags) → g ≡ placesOf x
+      → Takings p T piece b₀ x y recent at i b
+      → TakeAllPost p T piece b₀
+      (record { processor = record { mode = p .mode; azimuth = p .azimuth; taken = n; front = y .front; recent = recent; machine = record { places = g; counts = y .counts } }; at = at }) b
+  takings-end x y recent at i n b {g} l k is h =
       record {
         inside = h .inside;
         result = λ mode azimuth e t.
-            subst (λ (X : Trace). Taken mode azimuth X b₀ (record { processor = q; at = at }) b) (up-all T i (omega (arith, h .reach)) alike) (h .result mode azimuth e t);
+            let m : i ≡ n = omega (arith, h .reach) in
+            let q : record { mode = p .mode; azimuth = p .azimuth; taken = n; front = y .front; recent = recent; machine = record { places = g; counts = y .counts } } ≡ processorAt p x y recent i =
+            λ j. record { mode = p .mode; azimuth = p .azimuth; taken = sym m j; front = y .front; recent = recent; machine = record { places = is j; counts = y .counts } } in
+            subst (λ (X : Trace). Taken mode azimuth X b₀ (record { processor = record { mode = p .mode; azimuth = p .azimuth; taken = n; front = y .front; recent = recent; machine = record { places = g; counts = y .counts } }; at = at }) b)
+            (up-all T i (omega (arith, h .reach)) alike)
+            (subst (λ (r : Processor). Taken mode azimuth (upTo i T) b₀ (record { processor = r; at = at }) b) (sym q) (h .result mode azimuth e t .0));
       }
 
 -- ---- the close

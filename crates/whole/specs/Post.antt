@@ -60,19 +60,6 @@ pub record WholePost (mode azimuth : ℕ) (T : Trace) (piece : ℕ) (b c : List 
   pub recordBytes : b′ ≡ recordsOf (wholeAnswer mode azimuth T piece (length b) (length c)) T b
   pub totalBytes : c′ ≡ totalsOf (wholeAnswer mode azimuth T piece (length b) (length c)) T c
 
--- ---- one piece
-
--- the piece P behind the trace T: the words and the machine of a processor, whatever its mode and azimuth, and the records from place at of the buffer on
-pub record FedAt (T P : Trace) (at : ℕ) (b : List ℕ) (y : Run) (b′ : List ℕ) : Type 0 where
-  pub front : y .front ≡ runningProcessor 0 0 (T ⧺ P) .front
-  pub machine : y .machine ≡ runningProcessor 0 0 (T ⧺ P) .machine
-  pub place : y .at ≡ at + 18 * length (fresh standard T P)
-  pub buffer : b′ ≡ over-at (records (fresh standard T P)) at b
-
-pub record FeedAtPost (o : Run) (recent : List ℕ) (base : ℕ) (P : Trace) (b : List ℕ) (y : Run) (b′ : List ℕ) : Type 0 where
-  pub inside : y .at ≤ length b
-  pub result : (T : Trace) → Begins T (record { front = o .front; machine = o .machine; at = 0 }) recent base (P .flags) (P .values) (drop (o .at) b) → FedAt T P (o .at) b y b′
-
 -- ---- all pieces
 
 -- all of T, from the processor of its opening on; what is due is at the start of the buffer

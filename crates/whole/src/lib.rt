@@ -1,18 +1,21 @@
 // A whole sweep in one call, on numbers and byte buffers, for a program in C: opened, taken in pieces, closed.
-ghost use Prim.Native.Nat.{_+_, _-_, _*_, _≤_, _<_, min};
+ghost use Prim.Native.Nat.{_+_, _-_, _*_, _/_, _≤_, _<_, min};
 ghost use mathlib.Core.Path.{_≡_};
 ghost use lib.ListN.{length};
-ghost use Rattle.whole.specs.Post.{wholeRoom, wholeAnswer, numberOf, FeedAtPost, TakeAllPost, CloseAtPost, WholePost};
+ghost use Rattle.whole.specs.Post.{wholeRoom, wholeAnswer, numberOf, TakeAllPost, CloseAtPost, WholePost};
 ghost use Rattle.rules.specs.Buffers.{over};
 ghost use Rattle.frames.specs.Writing.{totalsBytes};
 use edges::flags::has_bad;
 use frames::totals_bytes;
+use lanes::columns::places_of;
+use lanes::steps::load;
+use rules::Machine;
 use rules::Totals;
 use sweep::Answer;
 use sweep::Processor;
-use sweep::Run;
+use sweep::Stand;
 use sweep::close;
-use sweep::feed;
+use sweep::feed_columns;
 use sweep::is_quiet;
 use sweep::keep;
 use sweep::open;
@@ -86,82 +89,81 @@ fn refusal(
     0
 }
 
-// The ticks that a sweep of `taken` ticks may still take.
-fn ticks_left(taken: u32) -> usize
-    ensures { λ r. ⌜ r ≡ 32768 - taken ⌝ }
+// The place in a buffer of n bytes behind the records up to `at` and those that `more` bytes hold.
+fn behind(at: usize, more: usize, n: usize) -> usize
+    requires { ⌜ at ≤ n ⌝ }
+    ensures { λ r. ⌜ r ≡ at + 18 * min (more / 18) ((n - at) / 18) ⌝ }
 {
-    if taken < 32768 {
-        return 32768 - taken as usize;
-    }
-    0
+    at + 18 * least(more / 18, (n - at) / 18)
 }
 
-// The run after a piece, whose records land behind those of the pieces before.
-fn feed_at(
-    o: Run,
-    recent: &[u8; 256],
-    base: u32,
-    flags: &[u8],
-    values: &[u8],
-    out: &mut [u8],
-) -> Run
-    requires { ⌜ o .at ≤ length (now out) ⌝ }
-    ensures { λ y. ⌜ FeedAtPost o (now (recent .entry)) base (record { flags = now (flags .entry); values = now (values .entry) }) (now (out .entry)) y (now (out .exit)) ⌝ }
-{
-    let at = o.at;
-    let front = o.front;
-    let machine = o.machine;
-    let first = Run {
-        front,
-        machine,
-        at: 0,
-    };
-    let most = (out.len() - at) / 18;
-    let y = feed(first, recent, base, flags, values, &mut out[at..]);
-    let front2 = y.front;
-    let machine2 = y.machine;
-    Run {
-        front: front2,
-        machine: machine2,
-        at: at + 18 * least(y.at / 18, most),
-    }
-}
-
-// All pieces, of `piece` ticks each but for the last. One that finds nothing is taken in place.
+// All pieces, of `piece` ticks each but for the last. The places stand as columns all the way; a piece that finds nothing is taken in place.
 fn take_all(p: Processor, flags: &[u8], values: &[u8], piece: usize, out: &mut [u8]) -> Reached
-    requires { ⌜ (length (now flags) ≡ length (now values)) × (1 ≤ piece) ⌝ }
+    requires { ⌜ (length (now flags) ≡ length (now values)) × (1 ≤ piece) × (length (now flags) ≤ 32768) ⌝ }
     ensures { λ r. ⌜ TakeAllPost p (record { flags = now (flags .entry); values = now (values .entry) }) piece (now (out .entry)) r (now (out .exit)) ⌝ }
 {
     let n = flags.len();
-    let mut q = p;
+    let mut f1 = [4294967295u32; 4];
+    let mut marks = [0u16; 4];
+    let mut row = [0u16; 24];
+    let mut level = [0.0f64; 4];
+    let mut on = [0u64; 8];
+    let m = p.machine;
+    let f = m.places;
+    load(&mut f1, &mut marks, &mut row, &mut level, f);
+    let first = p.front;
+    let counts = m.counts;
+    let mut run = Stand {
+        front: first,
+        counts,
+        at: 0,
+    };
+    let mut recent = p.recent;
     let mut at: usize = 0;
     let mut i: usize = 0;
     while i < n {
         let end = i + least(piece, n - i);
-        let base = q.taken;
-        if ticks_left(base) < end - i {
-            return Reached { processor: q, at };
-        }
-        if is_quiet(q, &flags[i..end]) {
-            keep(&mut q.recent, &values[i..end]);
-            q.taken = base + (end - i) as u32;
+        if is_quiet(run.front, &f1, i as u32, &flags[i..end]) {
+            keep(&mut recent, &values[i..end]);
             i = end;
             continue;
         }
-        let front = q.front;
-        let machine = q.machine;
-        let o = Run { front, machine, at };
-        let y = feed_at(o, &q.recent, base, &flags[i..end], &values[i..end], out);
-        let front2 = y.front;
-        let machine2 = y.machine;
-        q.front = front2;
-        q.machine = machine2;
-        keep(&mut q.recent, &values[i..end]);
-        q.taken = base + (end - i) as u32;
-        at = y.at;
+        let y = feed_columns(
+            &mut f1,
+            &mut marks,
+            &mut row,
+            &mut level,
+            &mut on,
+            run,
+            &recent,
+            i as u32,
+            &flags[i..end],
+            &values[i..end],
+            &mut out[at..],
+        );
+        keep(&mut recent, &values[i..end]);
+        at = behind(at, y.at, out.len());
+        run = y;
+        run.at = 0;
         i = end;
     }
-    Reached { processor: q, at }
+    let places = places_of(&f1, &marks, &row, &level);
+    let last = run.front;
+    let after = run.counts;
+    Reached {
+        processor: Processor {
+            mode: p.mode,
+            azimuth: p.azimuth,
+            taken: n as u32,
+            front: last,
+            recent,
+            machine: Machine {
+                places,
+                counts: after,
+            },
+        },
+        at,
+    }
 }
 
 // The close, whose records land behind those of the pieces, and the totals. Answers how many records there are in all.

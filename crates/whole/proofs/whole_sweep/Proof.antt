@@ -46,7 +46,7 @@ open-requires c κs = search needs
 
 -- src/lib.rt:179:9
 take-all-requires : tie.Need-take-all-requires
-take-all-requires c κs = ((clear (c .before .before .before .before .before .before .before .before .before .before .before .args .mode) (c .before .before .before .before .before .before .before .before .before .before .before .args .azimuth) (record { flags = c .before .before .before .before .before .before .before .before .before .before .before .args .flags .now; values = c .before .before .before .before .before .before .before .before .before .before .before .args .values .now }) (c .before .before .before .before .before .before .before .before .before .before .before .args .piece) (c .before .before .before .before .before .before .before .before .before .before .before .args .out .now) (c .before .before .before .before .before .before .before .before .before .before .before .args .totals .now) (sym (c .before .before .before .if1 .left) ∙ c .before .before .before .before .refusal .ensures)) .alike, (clear (c .before .before .before .before .before .before .before .before .before .before .before .args .mode) (c .before .before .before .before .before .before .before .before .before .before .before .args .azimuth) (record { flags = c .before .before .before .before .before .before .before .before .before .before .before .args .flags .now; values = c .before .before .before .before .before .before .before .before .before .before .before .args .values .now }) (c .before .before .before .before .before .before .before .before .before .before .before .args .piece) (c .before .before .before .before .before .before .before .before .before .before .before .args .out .now) (c .before .before .before .before .before .before .before .before .before .before .before .args .totals .now) (sym (c .before .before .before .if1 .left) ∙ c .before .before .before .before .refusal .ensures)) .some)
+take-all-requires c κs = let h = (clear (c .before .before .before .before .before .before .before .before .before .before .before .args .mode) (c .before .before .before .before .before .before .before .before .before .before .before .args .azimuth) (record { flags = c .before .before .before .before .before .before .before .before .before .before .before .args .flags .now; values = c .before .before .before .before .before .before .before .before .before .before .before .args .values .now }) (c .before .before .before .before .before .before .before .before .before .before .before .args .piece) (c .before .before .before .before .before .before .before .before .before .before .before .args .out .now) (c .before .before .before .before .before .before .before .before .before .before .before .args .totals .now) (sym (c .before .before .before .if1 .left) ∙ c .before .before .before .before .refusal .ensures)) in (h .alike, h .some, h .short)
 
 -- src/lib.rt:182:9
 close-at-requires : tie.Need-close-at-requires
