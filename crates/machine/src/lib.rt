@@ -4,7 +4,7 @@ ghost use Prim.Native.Nat.{_≤_};
 ghost use mathlib.Core.Bool.{_||_, cond};
 ghost use Rattle.replies.specs.Sums.{capped};
 ghost use Rattle.rules.specs.Machine.{start, openedBy, tally};
-ghost use Rattle.machine.specs.Places.{test, always, any3 as any3′, noPlaces, pushed, sifted, withoutBy, machineOf};
+ghost use Rattle.machine.specs.Places.{any3 as any3′, noPlaces, machineOf};
 use replies::military;
 use replies::pick;
 use replies::plus;
@@ -22,18 +22,6 @@ use rules::Reply;
 use rules::Slot;
 use rules::Word;
 
-// ---- one place
-
-pub fn busy(p: Place) -> bool
-    ensures { λ x. ⌜ x ≡ test always p ⌝ }
-{
-    let s = p.slot;
-    match s {
-        Slot::Idle => false,
-        Slot::Open(_) => true,
-    }
-}
-
 // ---- the four places
 
 pub fn any3(a: bool, b: bool, c: bool) -> bool
@@ -48,32 +36,6 @@ pub fn any4(a: bool, b: bool, c: bool, d: bool) -> bool
     a | (b | (c | d))
 }
 
-// The reply in the first idle place.
-pub fn push(f: Places, r: Reply) -> Places
-    ensures { λ x. ⌜ x ≡ pushed r f ⌝ }
-{
-    let p0 = f.p0;
-    let p1 = f.p1;
-    let p2 = f.p2;
-    let p3 = f.p3;
-    let q = Place {
-        slot: Slot::Open(r),
-    };
-    if !busy(p0) {
-        return Places { p0: q, p1, p2, p3 };
-    }
-    if !busy(p1) {
-        return Places { p0, p1: q, p2, p3 };
-    }
-    if !busy(p2) {
-        return Places { p0, p1, p2: q, p3 };
-    }
-    if !busy(p3) {
-        return Places { p0, p1, p2, p3: q };
-    }
-    f
-}
-
 pub fn no_places() -> Places
     ensures { λ x. ⌜ x ≡ noPlaces ⌝ }
 {
@@ -83,33 +45,6 @@ pub fn no_places() -> Places
         p2: Place { slot: Slot::Idle },
         p3: Place { slot: Slot::Idle },
     }
-}
-
-// The place's reply, unless it goes, behind those of f.
-pub fn sift(f: Places, p: Place, gone: bool) -> Places
-    ensures { λ x. ⌜ x ≡ sifted gone p f ⌝ }
-{
-    if gone {
-        return f;
-    }
-    let s = p.slot;
-    match s {
-        Slot::Idle => f,
-        Slot::Open(r) => push(f, r),
-    }
-}
-
-// The places without the replies that go, the rest moved up.
-pub fn without(f: Places, g0: bool, g1: bool, g2: bool, g3: bool) -> Places
-    ensures { λ x. ⌜ x ≡ withoutBy g0 g1 g2 g3 f ⌝ }
-{
-    if !any4(g0, g1, g2, g3) {
-        return f;
-    }
-    let a = sift(no_places(), f.p0, g0);
-    let b = sift(a, f.p1, g1);
-    let c = sift(b, f.p2, g2);
-    sift(c, f.p3, g3)
 }
 
 // ---- brackets

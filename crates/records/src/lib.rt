@@ -1,32 +1,21 @@
-// The record of a reply, and the replies that are no longer open: written, and removed from the places.
+// The record of a reply, and the reply of a place written once it is no longer open.
 ghost use mathlib.Core.Path.{_≡_};
 ghost use Prim.Native.Nat.{_+_, _*_, _%_, _≤_};
 ghost use lib.ListN.{length};
 ghost use lib.Ieee.{binary64, toBits};
-ghost use Rattle.rules.specs.Replies.{ended as ended′};
 ghost use Rattle.rules.specs.Records.{bytes, isAverage, flagsOf, confidence, recordOf};
-ghost use Rattle.machine.specs.Places.{test, withoutIn};
 ghost use Rattle.rules.specs.Buffers.{over-at};
-ghost use Rattle.records.specs.Post.{dueSlot, dueIn, HandedPost, DuePost, RetirePost};
-use machine::without;
+ghost use Rattle.records.specs.Post.{dueSlot, HandedPost};
 use replies::ended;
 use replies::level_of;
 use replies::pick;
 use rules::Estimate;
-use rules::Machine;
 use rules::Marks;
 use rules::Place;
-use rules::Places;
 use rules::Range;
 use rules::Reply;
 use rules::Slot;
 use rules::Tick;
-
-// The machine that is left, and the place in the buffer behind the last record.
-pub struct Retired {
-    pub machine: Machine,
-    pub at: usize,
-}
 
 // ---- the fields of a record
 
@@ -141,20 +130,6 @@ pub fn write_record(out: &mut [u8], at: usize, r: Reply)
 
 // ---- handing out
 
-// The place's reply is no longer open at u.
-pub fn ended_in(p: Place, u: u32) -> bool
-    ensures { λ x. ⌜ x ≡ test (ended′ u) p ⌝ }
-{
-    let s = p.slot;
-    match s {
-        Slot::Idle => false,
-        Slot::Open(r) => {
-            let q = r.f1;
-            ended(q.0, u)
-        }
-    }
-}
-
 // Writes the place's reply if it is no longer open at u, where there is room. The place in the buffer behind it.
 pub fn hand_one(p: Place, u: u32, out: &mut [u8], at: usize) -> usize
     ensures { λ r. ⌜ HandedPost 1 (dueSlot u (p .slot)) at (now (out .entry)) r (now (out .exit)) ⌝ }
@@ -177,51 +152,5 @@ pub fn hand_one(p: Place, u: u32, out: &mut [u8], at: usize) -> usize
             write_record(out, at, r);
             at + 18
         }
-    }
-}
-
-// The same for the four places, in order.
-pub fn hand_all(f: Places, u: u32, out: &mut [u8], at: usize) -> usize
-    ensures { λ r. ⌜ HandedPost 4 (dueIn u f) at (now (out .entry)) r (now (out .exit)) ⌝ }
-{
-    let a = hand_one(f.p0, u, out, at);
-    let b = hand_one(f.p1, u, out, a);
-    let c = hand_one(f.p2, u, out, b);
-    hand_one(f.p3, u, out, c)
-}
-
-// The places without the replies that are no longer open at u.
-pub fn still_open(f: Places, u: u32) -> Places
-    ensures { λ x. ⌜ x ≡ withoutIn (ended′ u) f ⌝ }
-{
-    let a = ended_in(f.p0, u);
-    let b = ended_in(f.p1, u);
-    let c = ended_in(f.p2, u);
-    let d = ended_in(f.p3, u);
-    without(f, a, b, c, d)
-}
-
-// A reply is no longer open at u, so that `retire` has something to do.
-pub fn due_any(m: Machine, u: u32) -> bool
-    ensures { λ x. ⌜ DuePost m u x ⌝ }
-{
-    let f = m.places;
-    ended_in(f.p0, u)
-}
-
-// Writes the replies that are no longer open at u, in order of F1, from place at on, and removes them.
-pub fn retire(m: Machine, u: u32, out: &mut [u8], at: usize) -> Retired
-    ensures { λ r. ⌜ RetirePost m u at (now (out .entry)) r (now (out .exit)) ⌝ }
-{
-    let f = m.places;
-    if !ended_in(f.p0, u) {
-        return Retired { machine: m, at };
-    }
-    let counts = m.counts;
-    let end = hand_all(f, u, out, at);
-    let places = still_open(f, u);
-    Retired {
-        machine: Machine { places, counts },
-        at: end,
     }
 }

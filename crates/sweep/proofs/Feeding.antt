@@ -16,7 +16,6 @@ use Rattle.rules.specs.Calls.{fresh, handed}
 use Rattle.rules.proofs.Joining.{assoc, fresh-join, handed-fresh, handed-done, after-known, records-append, records-length}
 use Rattle.machine.specs.Places.{machineOf}
 use Rattle.lanes.specs.Columns.{Rows, Sized, machineAt}
-use Rattle.records.specs.declared.Retired.{Retired}
 use Rattle.rules.specs.Buffers.{over-at}
 use Rattle.rules.proofs.Buffers.{over-at-more}
 use Rattle.edges.specs.declared.packing.Planes.{Planes}
@@ -25,7 +24,7 @@ use Rattle.sweep.specs.declared.span.Span.{Span}
 use Rattle.sweep.specs.declared.blocks.Run.{Run}
 use Rattle.sweep.specs.declared.blocks.Stand.{Stand}
 use Rattle.sweep.specs.State.{padded, frontOf}
-use Rattle.sweep.specs.Steps.{Low, AdvancePost, Spanned, SpanPost, stateAt, Bounded, Reads, Shows, Gives, WorkPost, Fed, Next, BlockPost, runOf}
+use Rattle.sweep.specs.Steps.{Low, AdvancePost, Spanned, SpanPost, stateAt, Bounded, Reads, Shows, Retired, Gives, WorkPost, Fed, Next, BlockPost, runOf}
 use Rattle.sweep.proofs.Answers.{standard-allowed}
 use Rattle.sweep.proofs.Working.{Works}
 

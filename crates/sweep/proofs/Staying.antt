@@ -1,19 +1,24 @@
 -- A block without flags, after ticks without flags, edges and M, changes nothing while no reply is due.
 use Prim.Native.Nat.{ℕ, _+_, _-_, _≤_, _<_}
 use native.Mathlib.Omega.{arith}
-use mathlib.Core.Path.{_≡_, refl, sym, _∙_, subst}
+use mathlib.Core.Path.{_≡_, refl, sym, ap, _∙_, subst}
 use mathlib.Core.Bool.{Bool, true, false}
 use mathlib.Core.List.{List}
 use lib.Dec.{eqb, leb}
-use lib.ListN.{getD}
+use lib.ListN.{length, getD}
 use borrow.Author.Tests.{eqb-true, leb-true, leb-false}
 use Rattle.rules.specs.declared.Machine.{Machine}
 use Rattle.rules.specs.declared.Counts.{Counts}
 use Rattle.rules.specs.Replies.{ended}
-use Rattle.machine.specs.Places.{test}
+use Rattle.machine.specs.Places.{test, placed, machineOf}
 use Rattle.lanes.specs.Columns.{Rows, none, marksOf, wordAt, referenceAt, placeIn, placesIn, machineAt}
+use Rattle.rules.specs.declared.Reply.{Reply}
+use Rattle.rules.specs.Records.{records}
+use Rattle.rules.specs.Buffers.{over-at}
 use Rattle.rules.proofs.Truth.{and-left, and-right}
-use Rattle.records.proofs.Handing.{retire-none}
+use Rattle.rules.proofs.ListLaws.{filter-none}
+use Rattle.rules.proofs.Buffers.{over-at-nil}
+use Rattle.records.proofs.Handing.{all-open, retired-same}
 use Rattle.edges.specs.declared.packing.Planes.{Planes}
 use Rattle.edges.specs.Words.{bit, Holds, Slid}
 use Rattle.edges.specs.Detection.{Detected}
@@ -27,7 +32,7 @@ use Rattle.sweep.specs.declared.blocks.Stand.{Stand}
 use Rattle.sweep.specs.Steps.{AdvancePost, SpanPost, TopPost, still, bare, Waits, Stays, BlockPost, runOf}
 use Rattle.sweep.proofs.Advancing.{advance-law}
 use Rattle.sweep.proofs.Spans.{span-law}
-use Rattle.sweep.proofs.Working.{Works, work-start, end-early, end-late, retires-late, plain-end}
+use Rattle.sweep.proofs.Working.{Working, Late, Works, work-start, end-early, end-late, plain-end}
 use Rattle.sweep.proofs.Feeding.{fed-next}
 
 -- ---- zero words
@@ -164,6 +169,26 @@ pub record NoneDue (m : Machine) (t : ℕ) : Type 0 where
 top-zero : (r : ℕ) → TopPost 0 r 0
 top-zero r = record { below = omega arith; clear = λ i h. zero-bit i; same = λ i h l. refl }
 
+-- nothing is handed out while the first reply is open
+late-none : (X : Type 0) (m : Machine) (s : Span) (r t : ℕ) (recent : List ℕ) (base : ℕ) (values : List ℕ) (at : ℕ) (b : List ℕ)
+    (w : Working X m s r t recent base values at b b m at 0) → test (ended (t - 179)) (m .places .p0) ≡ false
+    → Late X m s r t recent base values at b b m at w (record { machine = m; at = at }) b
+unfolding records
+late-none X m s r t recent base values at b w e =
+    record {
+      same = refl;
+      inside = λ h. h;
+      result = λ T l g S is q room.
+          let u = t - 179 in
+          let first : test (ended u) (placed (S .live) .p0) ≡ false = ap (λ (n : Machine). test (ended u) (n .places .p0)) (sym is) ∙ e in
+          let none′ = filter-none (ended u) (S .live) (all-open u (S .live) (q .order) first) in
+          record {
+            machine = is ∙ ap machineOf (sym (retired-same u S q first));
+            place = omega (arith, ap length none′);
+            buffer = sym (over-at-nil at b) ∙ ap (λ (l : List Reply). over-at (records l) at b) (sym none′);
+          };
+    }
+
 -- no edge stands at the last r ticks of the span, and no reply is due
 work-none : (m : Machine) (s : Span) (r t : ℕ) (recent : List ℕ) (base : ℕ) (values : List ℕ) (at : ℕ) (b : List ℕ) → r ≤ 64 → TopPost (s .due) r 0 → NoneDue m t
     → Works (Unit {0}) m s r t recent base values at b (record { machine = m; at = at }) b
@@ -175,7 +200,7 @@ work-none m s r t recent base values at b h top waits = go (leb 179 t) refl
         let w = work-start (Unit {0}) m s r t recent base values at b 0 h top in
         plain-end m s r t recent base values at b (record { machine = m; at = at }) b
         (end-late (Unit {0}) m s r t recent base values at b b m at w (record { machine = m; at = at }) b l
-        (retires-late (Unit {0}) m s r t recent base values at b w (record { machine = m; at = at }) b (retire-none m (t - 179) at b (waits .open-still l))))
+        (late-none (Unit {0}) m s r t recent base values at b w (waits .open-still l)))
     go false e =
         let w = work-start (Unit {0}) m s r t recent base values at b 0 h top in
         plain-end m s r t recent base values at b (record { machine = m; at = at }) b (end-early (Unit {0}) m s r t recent base values at b b m at w (leb-false 179 t e))

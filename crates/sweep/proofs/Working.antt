@@ -26,9 +26,8 @@ use Rattle.rules.proofs.Order.{rising-all, ordered}
 use Rattle.rules.proofs.Settled.{edge-timed}
 use Rattle.rules.proofs.Skipping.{skip-to, done-grows, visit-done, skip-done}
 use Rattle.machine.specs.Places.{placeAt, placed, machineOf}
-use Rattle.records.specs.declared.Retired.{Retired}
 use Rattle.rules.specs.Buffers.{over-at}
-use Rattle.records.specs.Post.{Queue, RetirePost}
+use Rattle.records.specs.Post.{Queue}
 use Rattle.lanes.specs.Columns.{Rows, Sized, none, machineAt, FitsPlace}
 use Rattle.lanes.specs.Masks.{AllMasked}
 use Rattle.lanes.specs.Post.{HandPost, Loaded, LoadPost, MasksPost}
@@ -36,7 +35,7 @@ use Rattle.rules.proofs.Buffers.{over-at-more, over-at-nil}
 use Rattle.edges.specs.Words.{bit, Lowest, WithoutLowest}
 use Rattle.edges.proofs.BitLaws.{zero-bit}
 use Rattle.sweep.specs.declared.span.Span.{Span}
-use Rattle.sweep.specs.Steps.{stateAt, Shows, Gives, Keeps, VisitPost, LatePost, WorkPost, TopPost}
+use Rattle.sweep.specs.Steps.{stateAt, Shows, Retired, Gives, Keeps, VisitPost, LatePost, WorkPost, TopPost}
 use Rattle.sweep.proofs.Growing.{padded-none}
 use Rattle.sweep.proofs.Spans.{span-stands}
 use Rattle.sweep.proofs.Visiting.{queue}
@@ -316,16 +315,6 @@ pub record Works (E : Type 0) (m : Machine) (s : Span) (r t : ℕ) (recent : Lis
   pub result : (T : Trace) → Shows T t s recent base values → r ≤ t → m ≡ machineOf (stateAt T (t - r - 178))
       → (l : List Reply) → stateAt T (t - 178) .done ≡ stateAt T (t - r - 178) .done ++ l → at + 18 * length l ≤ length b
       → Gives l (stateAt T (t - 178)) at b x b′ × E
-
-pub retires-late : (X : Type 0) (m₀ : Machine) (s : Span) (r t : ℕ) (recent : List ℕ) (base : ℕ) (values : List ℕ) (at : ℕ) (b : List ℕ)
-    (w : Working X m₀ s r t recent base values at b b m₀ at 0) (x : Retired) (b′ : List ℕ) → RetirePost m₀ (t - 179) at b x b′
-    → Late X m₀ s r t recent base values at b b m₀ at w x b′
-retires-late X m₀ s r t recent base values at b w x b′ v =
-    record {
-      same = v .same;
-      inside = v .inside;
-      result = λ T l g S is q room. record { machine = v .machine S is q room; place = v .place S is q room; buffer = v .buffer S is q room };
-    }
 
 pub plain-end : (m : Machine) (s : Span) (r t : ℕ) (recent : List ℕ) (base : ℕ) (values : List ℕ) (at : ℕ) (b : List ℕ) (x : Retired) (b′ : List ℕ)
     → Ended (Unit {0}) m s r t recent base values at b x b′ → Works (Unit {0}) m s r t recent base values at b x b′

@@ -17,11 +17,10 @@ use Rattle.rules.specs.Records.{records}
 use Rattle.rules.specs.Calls.{fresh, silence, takeRoom, closeRoom}
 use Rattle.rules.specs.declared.Counts.{Counts}
 use Rattle.rules.specs.declared.Totals.{Totals}
-use Rattle.machine.specs.Places.{test, machineOf}
+use Rattle.machine.specs.Places.{machineOf}
 use Rattle.lanes.specs.Columns.{Rows, Sized, machineAt}
 use Rattle.lanes.specs.Masks.{AllMasked}
 use Rattle.lanes.specs.Post.{HandPost}
-use Rattle.records.specs.declared.Retired.{Retired}
 use Rattle.rules.specs.Buffers.{over-at}
 use Rattle.edges.specs.declared.packing.Planes.{Planes}
 use Rattle.edges.specs.Words.{bit}
@@ -130,6 +129,11 @@ pub record Shows (T : Trace) (t : ℕ) (s : Span) (recent : List ℕ) (base : �
   pub ticks : length (T .flags) ≡ t
   pub spanned : Spanned (padded (T .flags)) t s
   pub reads : Reads T t recent base values
+
+-- a machine, and the place in the buffer behind the last record
+pub record Retired : Type 0 where
+  pub machine : Machine
+  pub at : ℕ
 
 -- the records of l are handed out from place `at` of the buffer b on, and the machine is left as that of the state
 pub record Gives (l : List Reply) (z : State) (at : ℕ) (b : List ℕ) (x : Retired) (b′ : List ℕ) : Type 0 where
