@@ -1,13 +1,13 @@
 -- What the code computes of a reply is what the rules say: positions, tests by ticks, code and confidence, bits, constants.
 use Prim.Native.Nat.{ℕ, _+_, _-_, _*_, _/_, _%_, _^_, _≤_, _<_}
 use native.Mathlib.Omega.{arith}
-use mathlib.Core.Path.{_≡_, refl, sym}
+use mathlib.Core.Path.{_≡_, refl, sym, ap}
 use mathlib.Core.Bool.{Bool, true, false, not, _&&_, _||_, cond}
 use lib.Dec.{leb, ltb, eqb}
 use lib.Pow.{pow-mono}
 use lib.IntN.{negsuc}
 use lib.Ieee.{fin, binary64, ofBits}
-use borrow.Author.Tests.{lt-ltb, le-ltb, ltb-true, ltb-false, le-leb, lt-leb, leb-true, leb-false, eqb-true, eqb-false, eq-eqb, ne-eqb}
+use borrow.Author.Tests.{ltb-true, ltb-false, le-leb, lt-leb, leb-true, leb-false, eqb-true, eqb-false, eq-eqb, ne-eqb}
 use Rattle.rules.specs.declared.Reply.{Reply}
 use Rattle.rules.specs.Samples.{bit}
 use Rattle.rules.specs.Replies.{f1, position, isInside, ended, military, number, verdict, bitOf, takes}
@@ -63,41 +63,13 @@ module _ (q u : ℕ) (h : q ≤ u) where
 -- ---- tests by ticks
 
 module _ (q u : ℕ) (r : Reply) (e : f1 r ≡ q) where
-  pub ended-before : u < q → false ≡ ended u r
+  pub ended-is : ltb (q + 205) u ≡ ended u r
   unfolding ended
-  ended-before h = sym (le-ltb (f1 r + 205) u (omega arith))
+  ended-is = ap (λ (y : ℕ). ltb (y + 205) u) (sym e)
 
-  pub ended-after : q ≤ u → ltb 205 (u - q) ≡ ended u r
-  unfolding ended
-  ended-after h = go (ltb 205 (u - q)) refl
-    where
-      go : (b : Bool) → ltb 205 (u - q) ≡ b → b ≡ ltb (f1 r + 205) u
-      go true t = sym (lt-ltb (f1 r + 205) u (omega (arith, ltb-true 205 (u - q) t)))
-      go false t = sym (le-ltb (f1 r + 205) u (omega (arith, ltb-false 205 (u - q) t)))
-
-  -- from the tick q + a on
-  from : (a : ℕ) → q ≤ u → leb a (u - q) ≡ leb (f1 r + a) u
-  from a h = go (leb a (u - q)) refl
-    where
-      go : (b : Bool) → leb a (u - q) ≡ b → b ≡ leb (f1 r + a) u
-      go true t = sym (le-leb (f1 r + a) u (omega (arith, leb-true a (u - q) t)))
-      go false t = sym (lt-leb (f1 r + a) u (omega (arith, leb-false a (u - q) t)))
-
-  -- to the tick q + a
-  to : (a : ℕ) → q ≤ u → leb (u - q) a ≡ leb u (f1 r + a)
-  to a h = go (leb (u - q) a) refl
-    where
-      go : (b : Bool) → leb (u - q) a ≡ b → b ≡ leb u (f1 r + a)
-      go true t = sym (le-leb u (f1 r + a) (omega (arith, leb-true (u - q) a t)))
-      go false t = sym (lt-leb u (f1 r + a) (omega (arith, leb-false (u - q) a t)))
-
-  pub military-before : u < q → false ≡ military u r
+  pub military-is : leb (q + 203) u && leb u (q + 205) ≡ military u r
   unfolding military
-  military-before h = rw (lt-leb (f1 r + 203) u (omega arith))
-
-  pub military-after : q ≤ u → leb 203 (u - q) && leb (u - q) 205 ≡ military u r
-  unfolding military
-  military-after h = rw (from 203 h, to 205 h)
+  military-is = ap (λ (y : ℕ). leb (y + 203) u && leb u (y + 205)) (sym e)
 
 -- ---- code and confidence
 

@@ -65,21 +65,14 @@ pub fn settles(k: u32) -> bool
 pub fn ended(q: u32, u: u32) -> bool
     ensures { λ x. ⌜ ((r : Reply) → f1 r ≡ q → x ≡ ended′ u r) ⌝ }
 {
-    if u < q {
-        return false;
-    }
-    205 < u - q
+    q as u64 + 205 < u as u64
 }
 
 // A reply that opens at u is military by an open one with F1 at q.
 pub fn military(q: u32, u: u32) -> bool
     ensures { λ x. ⌜ ((r : Reply) → f1 r ≡ q → x ≡ military′ u r) ⌝ }
 {
-    if u < q {
-        return false;
-    }
-    let d = u - q;
-    (203 <= d) & (d <= 205)
+    (q as u64 + 203 <= u as u64) & (u as u64 <= q as u64 + 205)
 }
 
 pub fn level_of(e: Estimate) -> f64
