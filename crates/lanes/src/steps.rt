@@ -28,10 +28,8 @@ use machine::tallied;
 use records::hand_one;
 use replies::code_of;
 use replies::ended;
-use replies::inside;
 use replies::military;
 use replies::near;
-use replies::position;
 use replies::refer;
 use replies::settle;
 use replies::sure_of;
@@ -173,14 +171,21 @@ fn purge(
     a + (b + (c + d))
 }
 
+// A reply with F1 at q covers u at position 1 to 14.
+fn inside_from(q: u32, u: u32) -> bool
+    ensures { λ r. ⌜ r ≡ insideFrom u q ⌝ }
+{
+    covered(q, u) & (((q as u64 + 1) < u as u64) & ((u as u64) < q as u64 + 203))
+}
+
 // An open reply covers u at position 1 to 14.
 fn any_inside(f1: &[u32; 4], u: u32) -> bool
     ensures { λ r. ⌜ r ≡ anyOf (insideFrom u) (now (f1 .entry)) ⌝ }
 {
-    let a = inside(position(f1[0], u));
-    let b = inside(position(f1[1], u));
-    let c = inside(position(f1[2], u));
-    let d = inside(position(f1[3], u));
+    let a = inside_from(f1[0], u);
+    let b = inside_from(f1[1], u);
+    let c = inside_from(f1[2], u);
+    let d = inside_from(f1[3], u);
     any4(a, b, c, d)
 }
 
@@ -210,13 +215,7 @@ fn any_covered(f1: &[u32; 4], u: u32) -> bool
 fn is_clear(f1: &[u32; 4], first: bool, main: bool, w: u32) -> bool
     ensures { λ r. ⌜ r ≡ (first || (main && not (anyOf (λ q. coversFrom q w) (now (f1 .entry))))) ⌝ }
 {
-    if first {
-        return true;
-    }
-    if !main {
-        return false;
-    }
-    !any_covered(f1, w)
+    first | (main & !any_covered(f1, w))
 }
 
 // The first idle column, or the last.
