@@ -1,5 +1,5 @@
 -- The edge goes to the columns that cover it, one after the other; each changes only its own word and reference.
-use Prim.Native.Nat.{ℕ, _+_, _-_, _/_, _%_, _≤_, _<_}
+use Prim.Native.Nat.{ℕ, _+_, _-_, _/_, _%_, _^_, _≤_, _<_}
 use native.Mathlib.Omega.{arith}
 use mathlib.Core.Path.{_≡_, refl, sym, ap, _∙_, subst}
 use mathlib.Core.Bool.{Bool, true, false, not, _&&_, _||_, cond}
@@ -23,6 +23,7 @@ use Rattle.rules.specs.Samples.{bit as digit}
 use Rattle.rules.specs.Replies.{Verdict, f1, position, isPosition, covers, near, level, agrees, verdict, takes, settle, average, heardAt, bitOf}
 use Rattle.rules.proofs.Truth.{impossible, or-left, or-right, and-left}
 use Rattle.replies.specs.Sums.{capped}
+use Rattle.replies.proofs.ReplyLaws.{bit-some}
 use Rattle.machine.specs.Places.{test, testSlot, any3, positionIn, reaches, hearAt, dealt}
 use Rattle.machine.proofs.PlaceLaws.{covers-in, deal-by, deal-quiet}
 use Rattle.edges.specs.Words.{bit}
@@ -33,6 +34,10 @@ use Rattle.lanes.specs.Post.{WordPost, Heard, HearPost, HearIfPost, twic
 use Rattle.lanes.proofs.ColumnLaws.{open-there, idle-place}
 
 -- ---- the position that covers a tick
+
+covers-from : (q u : ℕ) → coversFrom q u ≡ isPosition (position q u)
+unfolding coversFrom
+covers-from q u = refl
 
 covers-parts : (q u : ℕ) → coversFrom q u ≡ true → (leb q (u + 1) && leb ((u + 1 - q) % 12) 2) ≡ true
 unfolding coversFrom position
@@ -75,54 +80,34 @@ covering-late q u l h =
 
 -- ---- one column
 
-module _ (f w : List ℕ) (v : List Float) (j : ℕ) (e : Pulse) (own other : Bool) (k : ℕ) (ek : coversFrom (getD f j 0) (e .tick .0) ≡ true → k ≡ position (getD f j 0) (e .tick .0)) where
-  -- nothing is to be settled
-  pub hear-nothing : (t : Bool) → t ≡ takes k (wordAt w j .settled) → t ≡ false → HearPost f w v j e own other w v
-  hear-nothing t told off =
-      record {
-        result = λ lw lv c.
-            let z : takes (position (getD f j 0) (e .tick .0)) (wordAt w j .settled) ≡ false = ap (λ (y : ℕ). takes y (wordAt w j .settled)) (sym (ek c)) ∙ sym told ∙ off in
-            record {
-              row-size = lw;
-              level-size = lv;
-              word = sym (ap (λ (b : Bool). cond b (settle capped (position (getD f j 0) (e .tick .0)) (verdict (e .main) own other) (wordAt w j)) (wordAt w j)) z);
-              reference =
-                  sym
-                  (ap
-                  (λ (b : Bool).
-                  cond b (cond (verdict (e .main) own other .confidence) (average capped (referenceAt w v j) (e .value)) (referenceAt w v j)) (referenceAt w v j))
-                  z);
-              word-rest = λ i hi n. refl;
-              reference-rest = λ i hi n. refl;
-            };
-      }
+-- two tests at once, or in turn
+in-turn : (t s : Bool) (x y : Reference) → cond (t && s) x y ≡ cond t (cond s x y) y
+in-turn true s x y = refl
+in-turn false s x y = refl
 
-  pub hear-settles : (t : Bool) → t ≡ takes k (wordAt w j .settled) → t ≡ true → (code sure : Bool) → code ≡ verdict (e .main) own other .code
-      → sure ≡ verdict (e .main) own other .confidence → (a : Word) → a ≡ settle capped k (record { code = code; confidence = sure }) (wordAt w j) → (b : Reference)
-      → b ≡ cond sure (average capped (referenceAt w v j) (e .value)) (referenceAt w v j) → (w′ : List ℕ) (v′ : List Float) → WordPost w v j a b w′ v′
+module _ (f w : List ℕ) (v : List Float) (j : ℕ) (e : Pulse) (own other : Bool) (k : ℕ) (ek : coversFrom (getD f j 0) (e .tick .0) ≡ true → k ≡ position (getD f j 0) (e .tick .0)) where
+  pub hear-by : (x : Word) → x ≡ wordAt w j → (y : Reference) → y ≡ referenceAt w v j → (b : ℕ)
+      → (isPosition k ≡ true → b ≡ cond (takes k (x .settled)) (2 ^ bitOf k) 0) → (code sure : Bool) → code ≡ verdict (e .main) own other .code
+      → sure ≡ verdict (e .main) own other .confidence → (a : Word)
+      → ((t : Bool) (n : ℕ) → b ≡ cond t (2 ^ bitOf n) 0 → a ≡ cond t (settle capped n (record { code = code; confidence = sure }) x) x) → (g : Reference)
+      → g ≡ cond (not (eqb b 0) && sure) (average capped y (e .value)) y → (w′ : List ℕ) (v′ : List Float) → WordPost w v j a g w′ v′
       → HearPost f w v j e own other w′ v′
-  hear-settles t told on code sure ec es a ea b eb w′ v′ p =
+  hear-by x ex y ey b eb code sure ec es a ea g eg w′ v′ p =
       record {
         result = λ lw lv c.
             let h = p .result lw lv in
-            let z : takes (position (getD f j 0) (e .tick .0)) (wordAt w j .settled) ≡ true = ap (λ (y : ℕ). takes y (wordAt w j .settled)) (sym (ek c)) ∙ sym told ∙ on in
-            let q : settle capped k (record { code = code; confidence = sure }) (wordAt w j)
-            ≡ settle capped (position (getD f j 0) (e .tick .0)) (verdict (e .main) own other) (wordAt w j) =
-            λ i. settle capped (ek c i) (record { code = ec i; confidence = es i }) (wordAt w j) in
-            let r = ap (λ (y : Bool). cond y (average capped (referenceAt w v j) (e .value)) (referenceAt w v j)) es in
+            let K = position (getD f j 0) (e .tick .0) in
+            let T = takes K (wordAt w j .settled) in
+            let on : isPosition k ≡ true = ap isPosition (ek c) ∙ sym (covers-from (getD f j 0) (e .tick .0)) ∙ c in
+            let fresh : b ≡ cond T (2 ^ bitOf K) 0 = eb on ∙ (λ i. cond (takes (ek c i) (ex i .settled)) (2 ^ bitOf (ek c i)) 0) in
+            let some = bit-some T (bitOf K) b fresh in
             record {
               row-size = h .row-size;
               level-size = h .level-size;
-              word =
-                  h .word ∙ ea ∙ q
-                  ∙ sym (ap (λ (y : Bool). cond y (settle capped (position (getD f j 0) (e .tick .0)) (verdict (e .main) own other) (wordAt w j)) (wordAt w j)) z);
+              word = h .word ∙ ea T K fresh ∙ (λ i. cond T (settle capped K (record { code = ec i; confidence = es i }) (ex i)) (ex i));
               reference =
-                  h .reference ∙ eb ∙ r
-                  ∙ sym
-                  (ap
-                  (λ (y : Bool).
-                  cond y (cond (verdict (e .main) own other .confidence) (average capped (referenceAt w v j) (e .value)) (referenceAt w v j)) (referenceAt w v j))
-                  z);
+                  h .reference ∙ eg ∙ (λ i. cond (some i && es i) (average capped (ey i) (e .value)) (ey i))
+                  ∙ in-turn T (verdict (e .main) own other .confidence) (average capped (referenceAt w v j) (e .value)) (referenceAt w v j);
               word-rest = h .word-rest;
               reference-rest = h .reference-rest;
             };
@@ -238,10 +223,6 @@ heard-reply q M a a′ g g′ K X e false ea eg = λ i. record { f1 = record { 0
 covers-open : (u q : ℕ) (M : Marks) (a : Word) (g : Reference) → covers u (replyOf q M a g) ≡ isPosition (position q u)
 unfolding covers
 covers-open u q M a g = refl
-
-covers-from : (q u : ℕ) → coversFrom q u ≡ isPosition (position q u)
-unfolding coversFrom
-covers-from q u = refl
 
 agrees-open : (v q : ℕ) (M : Marks) (a : Word) (g : Reference) → agrees standard v (replyOf q M a g) ≡ near (standard .window) (level (g .estimate)) v
 unfolding agrees

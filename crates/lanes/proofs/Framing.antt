@@ -2,7 +2,7 @@
 use Prim.Native.Nat.{ℕ, _+_, _-_, _/_, _%_, _≤_, _<_}
 use native.Mathlib.Omega.{arith}
 use mathlib.Core.Path.{_≡_, refl, sym, ap, ap₂, _∙_, subst}
-use mathlib.Core.Bool.{Bool, true, false, not, _&&_, _||_, cond}
+use mathlib.Core.Bool.{Bool, true, false, not, _&&_, _||_, cond, and-false}
 use mathlib.Core.List.{List}
 use lib.Dec.{leb, ltb, eqb}
 use lib.Bits.{bitOr}
@@ -30,7 +30,6 @@ use Rattle.lanes.specs.Masks.{coversFrom, Masked, AllMasked, PutMasks, M
 use Rattle.lanes.specs.Post.{Put, PutPost, Purged, PurgePost, anyOf, insideFrom, militaryFrom, freeIn, OpenPost, FramePost, BracketPost}
 use Rattle.lanes.proofs.ColumnLaws.{open-there, idle-place}
 use Rattle.lanes.proofs.Holding.{any-covered-of, any-inside-of, any-military-of, masked-column, some, some-f1}
-use Rattle.lanes.proofs.MaskLaws.{and-none}
 use Rattle.lanes.proofs.Purging.{bit-four, four-any}
 
 -- ---- a column is busy where its F1 is that of a reply
@@ -297,8 +296,8 @@ inside-late q u k ek h l = go (leb k 14) refl (eqb k 17) refl (leb 1 k) refl
     go true ea b eb true ec =
         rw (lt-ltb (q + 1) u (omega (arith, leb-true 1 k ec)), lt-ltb u (q + 203) (omega (arith, leb-true k 14 ea)))
     go true ea b eb false ec = rw (le-ltb (q + 1) u (omega (arith, leb-false 1 k ec)))
-    go false ea true eb c ec = rw (le-ltb u (q + 203) (omega (arith, eqb-true k 17 eb)), and-none (ltb (q + 1) u), and-none c)
-    go false ea false eb c ec = sym (and-none c)
+    go false ea true eb c ec = rw (le-ltb u (q + 203) (omega (arith, eqb-true k 17 eb)), and-false (ltb (q + 1) u), and-false c)
+    go false ea false eb c ec = sym (and-false c)
 
 pub inside-law : (q u : ℕ) (c : Bool) → c ≡ coversFrom q u → (c && (ltb (q + 1) u && ltb u (q + 203))) ≡ insideFrom u q
 unfolding coversFrom insideFrom position

@@ -2,7 +2,7 @@
 use Prim.Native.Nat.{ℕ, zero, suc, _+_, _-_, _/_, _%_, _^_, _≤_, _<_}
 use native.Mathlib.Omega.{arith}
 use mathlib.Core.Path.{_≡_, refl, sym, ap, _∙_}
-use mathlib.Core.Bool.{Bool, true, false, not, _&&_, cond}
+use mathlib.Core.Bool.{Bool, true, false, not, _&&_, cond, and-false}
 use lib.Dec.{leb, ltb, eqb}
 use borrow.Author.Tests.{ltb-true, ltb-false, leb-true, leb-false, eqb-true, eqb-false, le-leb, lt-leb, ne-eqb}
 use Rattle.rules.specs.Replies.{position, isPosition}
@@ -125,15 +125,11 @@ far-cover k h =
 not-position : (k : ℕ) → 18 ≤ k → isPosition k ≡ false
 not-position k h = rw (lt-leb k 14 (omega arith), ne-eqb k 17 (λ e. omega arith))
 
-pub and-none : (a : Bool) → (a && false) ≡ false
-and-none true = refl
-and-none false = refl
-
 cover-far : (n : ℕ) → 320 ≤ n → rowBit coverWord n ≡ coverAt n
 unfolding rowBit coverAt
 cover-far n h =
     ap (λ (w : ℕ). bit w (n % 64)) (far-cover (n / 64) (omega arith)) ∙ zero-bit (n % 64)
-    ∙ sym (rw (not-position ((n - 64) / 12) (omega arith), and-none (leb ((n - 64) % 12) 2), and-none (leb 64 n)))
+    ∙ sym (rw (not-position ((n - 64) / 12) (omega arith), and-false (leb ((n - 64) % 12) 2), and-false (leb 64 n)))
 
 cover-out : (n : ℕ) → 320 ≤ n → rowBit coverWord n ≡ false
 unfolding rowBit

@@ -1,10 +1,10 @@
 // What an edge makes of the columns: replies that are over are handed out, a bracket is judged, and the edge goes to the open replies.
-ghost use Prim.Native.Nat.{_<_, _≤_};
+ghost use Prim.Native.Nat.{_^_, _<_, _≤_};
 ghost use mathlib.Core.Path.{_≡_};
-ghost use mathlib.Core.Bool.{true, _||_, _&&_, not};
+ghost use mathlib.Core.Bool.{true, _||_, _&&_, not, cond};
 ghost use lib.ListN.{getD};
 ghost use lib.Ieee.{nan};
-ghost use Rattle.rules.specs.Replies.{position as position′, near as near′};
+ghost use Rattle.rules.specs.Replies.{position as position′, isPosition, bitOf, takes, near as near′};
 ghost use Rattle.edges.specs.Words.{bit};
 ghost use Rattle.rules.specs.Settings.{standard};
 ghost use Rattle.machine.specs.Places.{any3 as any3′};
@@ -31,9 +31,8 @@ use replies::ended;
 use replies::military;
 use replies::near;
 use replies::refer;
-use replies::settle;
+use replies::settle_bit;
 use replies::sure_of;
-use replies::takes;
 use rules::Bracket;
 use rules::Counts;
 use rules::Fate;
@@ -326,6 +325,15 @@ fn covering(q: u32, u: u32) -> u32
     ((u - q) % 256 + 1) / 12
 }
 
+// The bit of position k, which covers, where edges settle it and `settled` does not have it; else 0. Position 0 gives bit 15, which the mask clears.
+fn fresh_bit(settled: u16, k: u32) -> u16
+    ensures is { λ b. ⌜ (isPosition k ≡ true → b ≡ cond (takes k settled) (2 ^ bitOf k) 0) ⌝ }
+    ensures most { λ b. ⌜ b ≤ 16384 ⌝ }
+{
+    let j = (k % 32 + 15 - 2 * (k % 32 / 16)) % 16;
+    (1u16 << j) & (32767 - settled % 32768)
+}
+
 // The edge e at column j, which covers it.
 fn hear(
     f1: &[u32; 4],
@@ -340,17 +348,14 @@ fn hear(
     ensures { λ _. ⌜ HearPost (now (f1 .entry)) (now (row .entry)) (now (level .entry)) j e own other (now (row .exit)) (now (level .exit)) ⌝ }
 {
     let u = e.tick;
-    let q = f1[j];
-    let k = covering(q, u.0);
+    let k = covering(f1[j], u.0);
     let w = word_at(row, j);
-    if !takes(w.settled, k) {
-        return;
-    }
+    let f = reference_at(row, level, j);
+    let b = fresh_bit(w.settled, k);
     let code = code_of(e.main, own, other);
     let sure = sure_of(e.main, own, other);
-    let f = reference_at(row, level, j);
-    let x = settle(w, k, code, sure);
-    let g = refer(sure, f, e.value);
+    let x = settle_bit(w, b, code, sure);
+    let g = refer((b != 0) & sure, f, e.value);
     put_word(row, level, j, x, g);
 }
 

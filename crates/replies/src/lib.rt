@@ -1,13 +1,11 @@
-// One reply: its positions, what it agrees with, and what an edge settles. Numbers in, numbers out.
+// One reply: tests by ticks, what it agrees with, and what an edge settles. Numbers in, numbers out.
 ghost use mathlib.Core.Path.{_≡_};
-ghost use Prim.Native.Nat.{_^_, _≤_, _<_};
-ghost use mathlib.Core.Bool.{_||_, cond};
-ghost use lib.Dec.{eqb};
+ghost use Prim.Native.Nat.{ℕ, _^_, _≤_, _<_};
+ghost use mathlib.Core.Bool.{Bool, cond};
 ghost use Rattle.replies.specs.Sums.{capped};
 ghost use Rattle.rules.specs.declared.Reply.{Reply};
-ghost use Rattle.rules.specs.Samples.{bit};
 ghost use Rattle.rules.specs.Settings.{standard};
-ghost use Rattle.rules.specs.Replies.{f1, position as position′, isInside, ended as ended′, military as military′, level, near as near′, average, verdict, bitOf, takes as takes′, settle as settle′};
+ghost use Rattle.rules.specs.Replies.{f1, ended as ended′, military as military′, level, near as near′, average, verdict, bitOf, settle};
 use rules::Estimate;
 use rules::Reference;
 use rules::Reply;
@@ -19,46 +17,6 @@ pub fn plus(a: u16, b: u16) -> u16
     ensures { λ r. ⌜ r ≡ capped a b ⌝ }
 {
     a % 32768 + b
-}
-
-// The position of a reply with F1 at q that covers tick u, or 15, which covers nothing.
-pub fn position(q: u32, u: u32) -> u32
-    ensures { λ k. ⌜ k ≡ position′ q u ⌝ }
-{
-    if u < q {
-        return early(q - u);
-    }
-    let d = u - q;
-    let x = d % 12;
-    if (1 < x) & (x < 11) {
-        return 15;
-    }
-    d / 12 + x / 11
-}
-
-// The same for a tick u that comes d ticks before F1.
-fn early(d: u32) -> u32
-    requires { ⌜ 0 < d ⌝ }
-    ensures { λ k. ⌜ k ≡ cond (eqb d 1) 0 15 ⌝ }
-{
-    if d == 1 {
-        return 0;
-    }
-    15
-}
-
-// Position k is one of 1 to 14.
-pub fn inside(k: u32) -> bool
-    ensures { λ x. ⌜ x ≡ isInside k ⌝ }
-{
-    (1 <= k) & (k <= 14)
-}
-
-// Position k is one that edges settle.
-pub fn settles(k: u32) -> bool
-    ensures { λ x. ⌜ x ≡ (isInside k || eqb k 17) ⌝ }
-{
-    ((1 <= k) & (k <= 14)) | (k == 17)
 }
 
 // At tick u a reply with F1 at q is no longer open.
@@ -137,61 +95,30 @@ pub fn pick(c: bool, a: u16, b: u16) -> u16
     b
 }
 
-// The bit of position k.
-pub fn bit_of(k: u32) -> u32
-    ensures { λ r. ⌜ r ≡ bitOf k ⌝ }
+pub fn pick_estimate(c: bool, a: Estimate, b: Estimate) -> Estimate
+    ensures { λ r. ⌜ r ≡ cond c a b ⌝ }
 {
-    if k == 17 {
-        return 14;
+    if c {
+        return a;
     }
-    if k == 0 {
-        return 0;
-    }
-    k - 1
+    b
 }
 
-// Bit j alone.
-pub fn power(j: u32) -> u16
-    requires { ⌜ j ≤ 14 ⌝ }
-    ensures { λ r. ⌜ (r ≡ 2 ^ j) × (r ≤ 16384) ⌝ }
+// The word with a position settled whose bit is b; with b 0 the word as it is.
+pub fn settle_bit(w: Word, b: u16, code: bool, sure: bool) -> Word
+    requires { ⌜ b ≤ 16384 ⌝ }
+    ensures { λ r. ⌜ ((t : Bool) (k : ℕ) → b ≡ cond t (2 ^ bitOf k) 0 → r ≡ cond t (settle capped k (record { code = code; confidence = sure }) w) w) ⌝ }
 {
-    1u16 << j
-}
-
-pub fn has(w: u16, j: u32) -> bool
-    requires { ⌜ j < 16 ⌝ }
-    ensures { λ r. ⌜ r ≡ bit j w ⌝ }
-{
-    (w >> j) % 2 == 1
-}
-
-// Position k is one that edges settle, and not settled yet.
-pub fn takes(w: u16, k: u32) -> bool
-    ensures { λ r. ⌜ r ≡ takes′ k w ⌝ }
-{
-    if !settles(k) {
-        return false;
-    }
-    let j = bit_of(k);
-    !has(w, j)
-}
-
-// The word with position k settled.
-pub fn settle(w: Word, k: u32, code: bool, sure: bool) -> Word
-    requires { ⌜ bitOf k ≤ 14 ⌝ }
-    ensures { λ r. ⌜ r ≡ settle′ capped k (record { code = code; confidence = sure }) w ⌝ }
-{
-    let j = bit_of(k);
-    let b = power(j);
+    let go = b != 0;
     let c = pick(code, b, 0);
     let n = pick(sure, 0, b);
     let x = plus(w.settled, b);
     let y = plus(w.code, c);
     let z = plus(w.unsure, n);
     Word {
-        settled: x,
-        code: y,
-        unsure: z,
+        settled: pick(go, x, w.settled),
+        code: pick(go, y, w.code),
+        unsure: pick(go, z, w.unsure),
     }
 }
 
@@ -199,8 +126,11 @@ pub fn settle(w: Word, k: u32, code: bool, sure: bool) -> Word
 pub fn refer(sure: bool, f: Reference, v: u8) -> Reference
     ensures { λ r. ⌜ r ≡ cond sure (average capped f v) f ⌝ }
 {
-    if sure {
-        return averaged(f, v);
-    }
-    f
+    let a = averaged(f, v);
+    let e = a.estimate;
+    let g = f.estimate;
+    let estimate = pick_estimate(sure, e, g);
+    let n = pick(sure, a.n, f.n);
+    let s = pick(sure, a.s, f.s);
+    Reference { estimate, n, s }
 }
