@@ -31,7 +31,7 @@ use Rattle.edges.proofs.BitLaws.{bit-and, bit-or}
 use Rattle.lanes.specs.Columns.{none, marksOf, estimateOf, wordAt, referenceAt, placeIn, placesIn}
 use Rattle.lanes.specs.Masks.{coversFrom}
 use Rattle.lanes.specs.Post.{WordPost, Heard, HearPost, HearIfPost, twiceIn, whichOf, Dealt, DealPost}
-use Rattle.lanes.proofs.ColumnLaws.{open-there, idle-place}
+use Rattle.lanes.proofs.ColumnLaws.{level-back, open-there, idle-place}
 
 -- ---- the position that covers a tick
 
@@ -86,13 +86,11 @@ in-turn true s x y = refl
 in-turn false s x y = refl
 
 module _ (f w : List ℕ) (v : List Float) (j : ℕ) (e : Pulse) (own other : Bool) (k : ℕ) (ek : coversFrom (getD f j 0) (e .tick .0) ≡ true → k ≡ position (getD f j 0) (e .tick .0)) where
-  pub hear-by : (x : Word) → x ≡ wordAt w j → (y : Reference) → y ≡ referenceAt w v j → (b : ℕ)
-      → (isPosition k ≡ true → b ≡ cond (takes k (x .settled)) (2 ^ bitOf k) 0) → (code sure : Bool) → code ≡ verdict (e .main) own other .code
-      → sure ≡ verdict (e .main) own other .confidence → (a : Word)
-      → ((t : Bool) (n : ℕ) → b ≡ cond t (2 ^ bitOf n) 0 → a ≡ cond t (settle capped n (record { code = code; confidence = sure }) x) x) → (g : Reference)
-      → g ≡ cond (not (eqb b 0) && sure) (average capped y (e .value)) y → (w′ : List ℕ) (v′ : List Float) → WordPost w v j a g w′ v′
-      → HearPost f w v j e own other w′ v′
-  hear-by x ex y ey b eb code sure ec es a ea g eg w′ v′ p =
+  pub hear-by : (x : Word) → x ≡ wordAt w j → (b : ℕ) → (isPosition k ≡ true → b ≡ cond (takes k (x .settled)) (2 ^ bitOf k) 0) → (code sure : Bool)
+      → code ≡ verdict (e .main) own other .code → sure ≡ verdict (e .main) own other .confidence → (a : Word)
+      → ((t : Bool) (n : ℕ) → b ≡ cond t (2 ^ bitOf n) 0 → a ≡ cond t (settle capped n (record { code = code; confidence = sure }) x) x) → (w′ : List ℕ) (v′ : List Float)
+      → WordPost w v j a (cond (not (eqb b 0) && sure) (average capped (referenceAt w v j) (e .value)) (referenceAt w v j)) w′ v′ → HearPost f w v j e own other w′ v′
+  hear-by x ex b eb code sure ec es a ea w′ v′ p =
       record {
         result = λ lw lv c.
             let h = p .result lw lv in
@@ -106,7 +104,7 @@ module _ (f w : List ℕ) (v : List Float) (j : ℕ) (e : Pulse) (own other : Bo
               level-size = h .level-size;
               word = h .word ∙ ea T K fresh ∙ (λ i. cond T (settle capped K (record { code = ec i; confidence = es i }) (ex i)) (ex i));
               reference =
-                  h .reference ∙ eg ∙ (λ i. cond (some i && es i) (average capped (ey i) (e .value)) (ey i))
+                  h .reference ∙ (λ i. cond (some i && es i) (average capped (referenceAt w v j) (e .value)) (referenceAt w v j))
                   ∙ in-turn T (verdict (e .main) own other .confidence) (average capped (referenceAt w v j) (e .value)) (referenceAt w v j);
               word-rest = h .word-rest;
               reference-rest = h .reference-rest;
@@ -201,13 +199,6 @@ takes-none k w h = go (leb 1 k) (leb k 14) (eqb k 17) (not (digit (bitOf k) w)) 
     go a false true d h = absurd (impossible h)
     go true false false d h = refl
     go false false false d h = refl
-
-level-back : (k : ℕ) (x : Float) → level (estimateOf k x) ≡ x
-level-back k x = go (eqb k 0)
-  where
-    go : (b : Bool) → level (cond b (Lone x) (Average x)) ≡ x
-    go true = refl
-    go false = refl
 
 -- the reply of a column
 abbrev replyOf : ℕ → Marks → Word → Reference → Reply

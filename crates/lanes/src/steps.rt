@@ -12,10 +12,9 @@ ghost use Rattle.lanes.specs.Masks.{coversFrom, MaskPost};
 ghost use Rattle.lanes.specs.Post.{LoadPost, HandPost, DropIfPost, PurgePost, OpenPost, FramePost, BracketPost, HearPost, HearIfPost, DealPost, anyOf, insideFrom, militaryFrom, freeIn, twiceIn, whichOf};
 use super::columns::drop_column;
 use super::columns::place_at;
+use super::columns::put_heard;
 use super::columns::put_place;
 use super::columns::put_reply;
-use super::columns::put_word;
-use super::columns::reference_at;
 use super::columns::word_at;
 use super::masks::cover_mask;
 use super::masks::covered;
@@ -30,7 +29,6 @@ use replies::code_of;
 use replies::ended;
 use replies::military;
 use replies::near;
-use replies::refer;
 use replies::settle_bit;
 use replies::sure_of;
 use rules::Bracket;
@@ -350,13 +348,11 @@ fn hear(
     let u = e.tick;
     let k = covering(f1[j], u.0);
     let w = word_at(row, j);
-    let f = reference_at(row, level, j);
     let b = fresh_bit(w.settled, k);
     let code = code_of(e.main, own, other);
     let sure = sure_of(e.main, own, other);
     let x = settle_bit(w, b, code, sure);
-    let g = refer((b != 0) & sure, f, e.value);
-    put_word(row, level, j, x, g);
+    put_heard(row, level, j, x, (b != 0) & sure, e.value);
 }
 
 fn hear_if(

@@ -9,7 +9,6 @@ use lib.IntN.{negsuc}
 use lib.Ieee.{fin, binary64, ofBits}
 use borrow.Author.Tests.{eq-eqb, ne-eqb}
 use Rattle.rules.specs.declared.Reply.{Reply}
-use Rattle.rules.specs.declared.Reference.{Reference}
 use Rattle.rules.specs.declared.Word.{Word}
 use Rattle.rules.specs.Replies.{f1, ended, military, number, verdict, bitOf, settle}
 use Rattle.replies.specs.Sums.{capped}
@@ -85,12 +84,6 @@ settle-bit-law t k b code sure w e =
         (cond y (settle capped k (record { code = code; confidence = sure }) w) w)
     go true = refl
     go false = refl
-
--- one of two references, field by field
-pub pick-reference : (c : Bool) (a f : Reference)
-    → _≡_ {A = Reference} (record { estimate = cond c (a .estimate) (f .estimate); n = cond c (a .n) (f .n); s = cond c (a .s) (f .s) }) (cond c a f)
-pick-reference true a f = refl
-pick-reference false a f = refl
 
 pub cond-most : (b : Bool) (x y n : ℕ) → x ≤ n → y ≤ n → cond b x y ≤ n
 cond-most true x y n h k = h

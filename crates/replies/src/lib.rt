@@ -5,9 +5,8 @@ ghost use mathlib.Core.Bool.{Bool, cond};
 ghost use Rattle.replies.specs.Sums.{capped};
 ghost use Rattle.rules.specs.declared.Reply.{Reply};
 ghost use Rattle.rules.specs.Settings.{standard};
-ghost use Rattle.rules.specs.Replies.{f1, ended as ended′, military as military′, level, near as near′, average, verdict, bitOf, settle};
+ghost use Rattle.rules.specs.Replies.{f1, ended as ended′, military as military′, level, near as near′, averaged as averaged′, verdict, bitOf, settle};
 use rules::Estimate;
-use rules::Reference;
 use rules::Reply;
 use rules::Word;
 
@@ -56,20 +55,11 @@ pub fn wide(v: u8) -> u16
     v as u16
 }
 
-// The reference with one more value.
-pub fn averaged(f: Reference, v: u8) -> Reference
-    ensures { λ r. ⌜ r ≡ average capped f v ⌝ }
+// The estimate x with one more value.
+pub fn averaged(x: f64, v: u8) -> f64
+    ensures { λ r. ⌜ r ≡ averaged′ x v ⌝ }
 {
-    let e = f.estimate;
-    let x = (level_of(e) + v as f64) * 0.5;
-    let n = plus(f.n, 1);
-    let w = wide(v);
-    let s = plus(f.s, w);
-    Reference {
-        estimate: Estimate::Average(x),
-        n,
-        s,
-    }
+    (x + v as f64) * 0.5
 }
 
 // The code of a position, by whether the edge has M, agrees with the reply's own reference, and with another's.
@@ -95,15 +85,6 @@ pub fn pick(c: bool, a: u16, b: u16) -> u16
     b
 }
 
-pub fn pick_estimate(c: bool, a: Estimate, b: Estimate) -> Estimate
-    ensures { λ r. ⌜ r ≡ cond c a b ⌝ }
-{
-    if c {
-        return a;
-    }
-    b
-}
-
 // The word with a position settled whose bit is b; with b 0 the word as it is.
 pub fn settle_bit(w: Word, b: u16, code: bool, sure: bool) -> Word
     requires { ⌜ b ≤ 16384 ⌝ }
@@ -120,17 +101,4 @@ pub fn settle_bit(w: Word, b: u16, code: bool, sure: bool) -> Word
         code: pick(go, y, w.code),
         unsure: pick(go, z, w.unsure),
     }
-}
-
-// The reference after an edge: at 1, 1 with its value.
-pub fn refer(sure: bool, f: Reference, v: u8) -> Reference
-    ensures { λ r. ⌜ r ≡ cond sure (average capped f v) f ⌝ }
-{
-    let a = averaged(f, v);
-    let e = a.estimate;
-    let g = f.estimate;
-    let estimate = pick_estimate(sure, e, g);
-    let n = pick(sure, a.n, f.n);
-    let s = pick(sure, a.s, f.s);
-    Reference { estimate, n, s }
 }

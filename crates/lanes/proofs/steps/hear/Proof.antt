@@ -15,9 +15,6 @@ covering-requires c κs = search needs
 word-at-requires : tie.Need-word-at-requires
 word-at-requires c κs = search needs
 
-reference-at-requires : tie.Need-reference-at-requires
-reference-at-requires c κs = search needs
-
 fresh-bit-requires : tie.Need-fresh-bit-requires
 fresh-bit-requires c κs = search needs
 
@@ -30,18 +27,15 @@ sure-of-requires c κs = search needs
 settle-bit-requires : tie.Need-settle-bit-requires
 settle-bit-requires c κs = search needs
 
-refer-requires : tie.Need-refer-requires
-refer-requires c κs = search needs
-
-put-word-requires : tie.Need-put-word-requires
-put-word-requires c κs = search needs
+put-heard-requires : tie.Need-put-heard-requires
+put-heard-requires c κs = search needs
 
 returns : tie.Need-returns
 returns c =
-    let args = c .before .before .before .before .before .before .before .before .before .before .before .before .before .before .before .before .args in
-    hear-by (args .f1 .now) (args .row .now) (args .level .now) (args .j) (args .e) (args .own) (args .other) _ (c .before .before .before .before .before .before .before .before .before .before .before .before .before .covering .ensures) _
-    (c .before .before .before .before .before .before .before .before .before .before .before .word-at .ensures) _ (c .before .before .before .before .before .before .before .before .reference-at .ensures) _ (c .before .before .before .before .before .before .before .fresh-bit .ensures .0) _ _ (c .before .before .before .before .before .before .code-of .ensures) (c .before .before .before .before .before .sure-of .ensures) _
-    (c .before .before .before .before .settle-bit .ensures) _ (c .before .before .before .refer .ensures) _ _ (c .put-word .ensures)
+    let args = c .before .before .before .before .before .before .before .before .before .before .before .before .args in
+    hear-by (args .f1 .now) (args .row .now) (args .level .now) (args .j) (args .e) (args .own) (args .other) _ (c .before .before .before .before .before .before .before .before .before .covering .ensures) _
+    (c .before .before .before .before .before .before .before .word-at .ensures) _ (c .before .before .before .before .before .before .fresh-bit .ensures .0) _ _ (c .before .before .before .before .before .code-of .ensures) (c .before .before .before .before .sure-of .ensures) _
+    (c .before .before .before .settle-bit .ensures) _ _ (c .put-heard .ensures)
 
 pub hear-spec : {M : Type 1} → statement M
 hear-spec =
@@ -51,11 +45,9 @@ hear-spec =
     element-copy-out-covering
     covering-requires
     word-at-requires
-    reference-at-requires
     fresh-bit-requires
     code-of-requires
     sure-of-requires
     settle-bit-requires
-    refer-requires
-    put-word-requires
+    put-heard-requires
     returns)
