@@ -10,7 +10,6 @@ use lib.ListN.{length, getD}
 use lib.Ieee.{Float, nan}
 use borrow.Author.Tests.{leb-true, eqb-true, eqb-false}
 use Rattle.rules.specs.declared.Marks.{Marks}
-use Rattle.rules.specs.declared.Estimate.the-variants.{Lone, Average}
 use Rattle.rules.specs.declared.Word.{Word}
 use Rattle.rules.specs.declared.Reference.{Reference}
 use Rattle.rules.specs.declared.Reply.{Reply}
@@ -28,7 +27,7 @@ use Rattle.machine.specs.Places.{test, testSlot, any3, positionIn, reaches, hea
 use Rattle.machine.proofs.PlaceLaws.{covers-in, deal-by, deal-quiet}
 use Rattle.edges.specs.Words.{bit}
 use Rattle.edges.proofs.BitLaws.{bit-and, bit-or}
-use Rattle.lanes.specs.Columns.{none, marksOf, estimateOf, wordAt, referenceAt, placeIn, placesIn}
+use Rattle.lanes.specs.Columns.{none, marksOf, wordAt, referenceAt, placeIn, placesIn}
 use Rattle.lanes.specs.Masks.{coversFrom}
 use Rattle.lanes.specs.Post.{WordPost, Heard, HearPost, HearIfPost, twiceIn, whichOf, Dealt, DealPost}
 use Rattle.lanes.proofs.ColumnLaws.{level-back, open-there, idle-place}

@@ -78,7 +78,7 @@ pub fn phantom_mask(q: u32, suspect: bool, t: u32) -> u64
     across(a, b, g % 64)
 }
 
-// Whether a reply with F1 at q covers u.
+// Whether a reply with F1 at q covers u. The ticks from q-1 to q+254 have d from 2^32 to 2^32+255.
 pub fn covered(q: u32, u: u32) -> bool
     ensures { λ r. ⌜ r ≡ coversFrom q u ⌝ }
 {
