@@ -19,8 +19,9 @@ use Rattle.rules.specs.declared.Reply.{Reply}
 use Rattle.rules.specs.declared.Slot.{Slot}
 use Rattle.rules.specs.declared.Slot.the-variants.{Idle, Open}
 use Rattle.rules.specs.declared.Place.{Place}
-use Rattle.rules.specs.Replies.{f1, level}
+use Rattle.rules.specs.Replies.{f1, level, averaged, average}
 use Rattle.rules.proofs.Truth.{same-or}
+use Rattle.replies.specs.Sums.{capped}
 use Rattle.machine.specs.Places.{idle}
 use Rattle.lanes.specs.Columns.{marksNumber, marksOf, kindOf, estimateOf, Rows, Sized, none, wordAt, referenceAt, placeIn, columnAt, idleColumn, FitsSlot}
 use Rattle.lanes.specs.Post.{WordPost, PutPost, Moved, MovePost, DropPost}
@@ -73,6 +74,13 @@ estimate-back : (e : Estimate) → estimateOf (kindOf e) (level e) ≡ e
 estimate-back (Lone x) = refl
 estimate-back (Average x) = refl
 
+pub level-back : (k : ℕ) (x : Float) → level (estimateOf k x) ≡ x
+level-back k x = go (eqb k 0)
+  where
+    go : (b : Bool) → level (cond b (Lone x) (Average x)) ≡ x
+    go true = refl
+    go false = refl
+
 -- ---- a row of six numbers for each column
 
 abbrev pub putRow : List ℕ → ℕ → ℕ → ℕ → ℕ → ℕ → ℕ → ℕ → List ℕ
@@ -100,6 +108,26 @@ module _ (w : List ℕ) (j a b c d e f : ℕ) where
   put-other k n₁ n₂ n₃ n₄ n₅ n₆ =
       getD-set-other w₅ (20 + j) k f 0 n₆ ∙ getD-set-other w₄ (16 + j) k e 0 n₅ ∙ getD-set-other w₃ (12 + j) k d 0 n₄
       ∙ getD-set-other w₂ (8 + j) k c 0 n₃ ∙ getD-set-other w₁ (4 + j) k b 0 n₂ ∙ getD-set-other w j k a 0 n₁
+
+  -- a number that is read before it is written is that of the row from before
+  ahead-3 : getD (set (set (set w j a) (4 + j) b) (8 + j) c) (12 + j) 0 ≡ getD w (12 + j) 0
+  unfolding w₁ w₂
+  ahead-3 =
+      getD-set-other w₂ (8 + j) (12 + j) c 0 (λ z. omega arith) ∙ getD-set-other w₁ (4 + j) (12 + j) b 0 (λ z. omega arith)
+      ∙ getD-set-other w j (12 + j) a 0 (λ z. omega arith)
+
+  ahead-4 : getD (set (set (set (set w j a) (4 + j) b) (8 + j) c) (12 + j) d) (16 + j) 0 ≡ getD w (16 + j) 0
+  unfolding w₁ w₂ w₃
+  ahead-4 =
+      getD-set-other w₃ (12 + j) (16 + j) d 0 (λ z. omega arith) ∙ getD-set-other w₂ (8 + j) (16 + j) c 0 (λ z. omega arith)
+      ∙ getD-set-other w₁ (4 + j) (16 + j) b 0 (λ z. omega arith) ∙ getD-set-other w j (16 + j) a 0 (λ z. omega arith)
+
+  ahead-5 : getD (set (set (set (set (set w j a) (4 + j) b) (8 + j) c) (12 + j) d) (16 + j) e) (20 + j) 0 ≡ getD w (20 + j) 0
+  unfolding w₁ w₂ w₃ w₄
+  ahead-5 =
+      getD-set-other w₄ (16 + j) (20 + j) e 0 (λ z. omega arith) ∙ getD-set-other w₃ (12 + j) (20 + j) d 0 (λ z. omega arith)
+      ∙ getD-set-other w₂ (8 + j) (20 + j) c 0 (λ z. omega arith) ∙ getD-set-other w₁ (4 + j) (20 + j) b 0 (λ z. omega arith)
+      ∙ getD-set-other w j (20 + j) a 0 (λ z. omega arith)
 
   module _ (l : length w ≡ 24) (h : j < 4) where
     put-0 : getD (putRow w j a b c d e f) j 0 ≡ a
@@ -184,21 +212,17 @@ module _ (w : List ℕ) (j a b c d e f : ℕ) where
       unfolding wordAt
       word-rest = λ k. record { settled = rest-0 k; code = rest-1 k; unsure = rest-2 k }
 
-      reference-rest : (v : List Float) (x : Float) → referenceAt (putRow w j a b c d e f) (set v j x) i ≡ referenceAt w v i
+      reference-rest : (v v′ : List Float) → getD v′ i nan ≡ getD v i nan → referenceAt (putRow w j a b c d e f) v′ i ≡ referenceAt w v i
       unfolding referenceAt
-      reference-rest v x =
-          let y : getD (set v j x) i nan ≡ getD v i nan = getD-set-other v j i x nan n in
-          λ k. record { estimate = estimateOf (rest-5 k) (y k); n = rest-3 k; s = rest-4 k }
+      reference-rest v v′ y = λ k. record { estimate = estimateOf (rest-5 k) (y k); n = rest-3 k; s = rest-4 k }
 
     word-put : wordAt (putRow w j a b c d e f) j ≡ record { settled = a; code = b; unsure = c }
     unfolding wordAt
     word-put = λ k. record { settled = put-0 k; code = put-1 k; unsure = put-2 k }
 
-    reference-put : (v : List Float) (x : Float) → length v ≡ 4 → referenceAt (putRow w j a b c d e f) (set v j x) j ≡ record { estimate = estimateOf f x; n = d; s = e }
+    reference-put : (v′ : List Float) (x : Float) → getD v′ j nan ≡ x → referenceAt (putRow w j a b c d e f) v′ j ≡ record { estimate = estimateOf f x; n = d; s = e }
     unfolding referenceAt
-    reference-put v x lv =
-        let y : getD (set v j x) j nan ≡ x = getD-set-same v j x nan (omega arith) in
-        λ k. record { estimate = estimateOf (put-5 k) (y k); n = put-3 k; s = put-4 k }
+    reference-put v′ x y = λ k. record { estimate = estimateOf (put-5 k) (y k); n = put-3 k; s = put-4 k }
 
 -- ---- word and reference are written
 
@@ -212,11 +236,92 @@ put-word-law w v j a b kind x h ek ex =
             row-size = put-size w j (a .settled) (a .code) (a .unsure) (b .n) (b .s) kind l h;
             level-size = length-set v j x ∙ lv;
             word = word-put w j (a .settled) (a .code) (a .unsure) (b .n) (b .s) kind l h;
-            reference = reference-put w j (a .settled) (a .code) (a .unsure) (b .n) (b .s) kind l h v x lv ∙ (λ k. record { estimate = e k; n = b .n; s = b .s });
+            reference = reference-put w j (a .settled) (a .code) (a .unsure) (b .n) (b .s) kind l h (set v j x) x (getD-set-same v j x nan (omega arith)) ∙ (λ k. record { estimate = e k; n = b .n; s = b .s });
             word-rest = λ i hi n. word-rest w j (a .settled) (a .code) (a .unsure) (b .n) (b .s) kind l h i hi n;
-            reference-rest = λ i hi n. reference-rest w j (a .settled) (a .code) (a .unsure) (b .n) (b .s) kind l h i hi n v x;
+            reference-rest = λ i hi n. reference-rest w j (a .settled) (a .code) (a .unsure) (b .n) (b .s) kind l h i hi n v (set v j x) (getD-set-other v j i x nan n);
           };
     }
+
+-- ---- an edge is heard: the word is written, and the reference takes in a value, if c
+
+module _ (w : List ℕ) (v : List Float) (j : ℕ) (a : Word) (c : Bool) (y t n s number sum kind : ℕ) (h : j < 4) (et : t ≡ y)
+    (en : n ≡ capped (getD (set (set (set w j (a .settled)) (4 + j) (a .code)) (8 + j) (a .unsure)) (12 + j) 0) 1)
+    (e₃ : number ≡ cond c n (getD (set (set (set w j (a .settled)) (4 + j) (a .code)) (8 + j) (a .unsure)) (12 + j) 0))
+    (es : s ≡ capped (getD (set (set (set (set w j (a .settled)) (4 + j) (a .code)) (8 + j) (a .unsure)) (12 + j) number) (16 + j) 0) t)
+    (e₄ : sum ≡ cond c s (getD (set (set (set (set w j (a .settled)) (4 + j) (a .code)) (8 + j) (a .unsure)) (12 + j) number) (16 + j) 0))
+    (e₅ : kind ≡ cond c 1 (getD (set (set (set (set (set w j (a .settled)) (4 + j) (a .code)) (8 + j) (a .unsure)) (12 + j) number) (16 + j) sum) (20 + j) 0)) where
+  number-is : number ≡ cond c (capped (getD w (12 + j) 0) 1) (getD w (12 + j) 0)
+  number-is =
+      let r = ahead-3 w j (a .settled) (a .code) (a .unsure) number sum kind in
+      e₃ ∙ ap (λ (z : ℕ). cond c z (getD (set (set (set w j (a .settled)) (4 + j) (a .code)) (8 + j) (a .unsure)) (12 + j) 0)) en ∙ ap (λ (z : ℕ). cond c (capped z 1) z) r
+
+  sum-is : sum ≡ cond c (capped (getD w (16 + j) 0) y) (getD w (16 + j) 0)
+  sum-is =
+      let r = ahead-4 w j (a .settled) (a .code) (a .unsure) number sum kind in
+      e₄ ∙ ap (λ (z : ℕ). cond c z (getD (set (set (set (set w j (a .settled)) (4 + j) (a .code)) (8 + j) (a .unsure)) (12 + j) number) (16 + j) 0)) es
+      ∙ (λ i. cond c (capped (r i) (et i)) (r i))
+
+  kind-is : kind ≡ cond c 1 (getD w (20 + j) 0)
+  kind-is = e₅ ∙ ap (cond c 1) (ahead-5 w j (a .settled) (a .code) (a .unsure) number sum kind)
+
+  -- the reference of column j and those of the others, from where only the estimate of column j may have changed
+  heard-by : (v′ : List Float) (x : Float) → length v′ ≡ length v → getD v′ j nan ≡ x → ((i : ℕ) → (i ≡ j → ⊥) → getD v′ i nan ≡ getD v i nan) → (g : Reference)
+      → _≡_ {A = Reference} (record { estimate = estimateOf kind x; n = number; s = sum }) g
+      → WordPost w v j a g (putRow w j (a .settled) (a .code) (a .unsure) number sum kind) v′
+  heard-by v′ x lv′ same rest g eg =
+      record {
+        result = λ l lv.
+            record {
+              row-size = put-size w j (a .settled) (a .code) (a .unsure) number sum kind l h;
+              level-size = lv′ ∙ lv;
+              word = word-put w j (a .settled) (a .code) (a .unsure) number sum kind l h;
+              reference = reference-put w j (a .settled) (a .code) (a .unsure) number sum kind l h v′ x same ∙ eg;
+              word-rest = λ i hi n. word-rest w j (a .settled) (a .code) (a .unsure) number sum kind l h i hi n;
+              reference-rest = λ i hi n. reference-rest w j (a .settled) (a .code) (a .unsure) number sum kind l h i hi n v v′ (rest i n);
+            };
+      }
+
+  pub heard-same : c ≡ false
+      → WordPost w v j a (cond c (average capped (referenceAt w v j) y) (referenceAt w v j)) (putRow w j (a .settled) (a .code) (a .unsure) number sum kind) v
+  unfolding referenceAt
+  heard-same off =
+      heard-by v (getD v j nan) refl refl (λ i n. refl) (cond c (average capped (referenceAt w v j) y) (referenceAt w v j))
+      ((λ i. record { estimate = estimateOf (kind-to i) (getD v j nan); n = number-to i; s = sum-to i }) ∙ sym (ap (λ (b : Bool). cond b (average capped (referenceAt w v j) y) (referenceAt w v j)) off))
+    where
+      kind-to : kind ≡ getD w (20 + j) 0
+      kind-to = kind-is ∙ ap (λ (b : Bool). cond b 1 (getD w (20 + j) 0)) off
+
+      number-to : number ≡ getD w (12 + j) 0
+      number-to = number-is ∙ ap (λ (b : Bool). cond b (capped (getD w (12 + j) 0) 1) (getD w (12 + j) 0)) off
+
+      sum-to : sum ≡ getD w (16 + j) 0
+      sum-to = sum-is ∙ ap (λ (b : Bool). cond b (capped (getD w (16 + j) 0) y) (getD w (16 + j) 0)) off
+
+  pub heard-more : c ≡ true → (x : Float) → x ≡ averaged (getD v j nan) y
+      → WordPost w v j a (cond c (average capped (referenceAt w v j) y) (referenceAt w v j)) (putRow w j (a .settled) (a .code) (a .unsure) number sum kind) (set v j x)
+  unfolding average referenceAt
+  heard-more on x ex =
+      record {
+        result = λ l lv.
+            heard-by (set v j x) x (length-set v j x) (getD-set-same v j x nan (omega arith)) (λ i n. getD-set-other v j i x nan n)
+            (cond c (average capped (referenceAt w v j) y) (referenceAt w v j))
+            (taken ∙ sym (ap (λ (b : Bool). cond b (average capped (referenceAt w v j) y) (referenceAt w v j)) on)) .result l lv;
+      }
+    where
+      kind-to : kind ≡ 1
+      kind-to = kind-is ∙ ap (λ (b : Bool). cond b 1 (getD w (20 + j) 0)) on
+
+      number-to : number ≡ capped (getD w (12 + j) 0) 1
+      number-to = number-is ∙ ap (λ (b : Bool). cond b (capped (getD w (12 + j) 0) 1) (getD w (12 + j) 0)) on
+
+      sum-to : sum ≡ capped (getD w (16 + j) 0) y
+      sum-to = sum-is ∙ ap (λ (b : Bool). cond b (capped (getD w (16 + j) 0) y) (getD w (16 + j) 0)) on
+
+      x-to : x ≡ averaged (level (estimateOf (getD w (20 + j) 0) (getD v j nan))) y
+      x-to = ex ∙ ap (λ (z : Float). averaged z y) (sym (level-back (getD w (20 + j) 0) (getD v j nan)))
+
+      taken : _≡_ {A = Reference} (record { estimate = estimateOf kind x; n = number; s = sum }) (average capped (referenceAt w v j) y)
+      taken = λ i. record { estimate = estimateOf (kind-to i) (x-to i); n = number-to i; s = sum-to i }
 
 -- ---- a place of four rows
 
@@ -331,7 +436,7 @@ moved-up x j sized h =
     same-place (x .f1) (x .marks) w v (y .f1) (y .marks) (y .row) (y .level) j (1 + j) (getD-set-same (x .f1) j (getD (x .f1) (1 + j) 0) 0 (omega arith))
     (getD-set-same (x .marks) j (getD (x .marks) (1 + j) 0) 0 (omega arith))
     (word-put w j a b c d e f lw (omega arith) ∙ (λ i. record { settled = a; code = getD w (z₄ i) 0; unsure = getD w (z₈ i) 0 }))
-    (reference-put w j a b c d e f lw (omega arith) v (getD v (1 + j) nan) lv
+    (reference-put w j a b c d e f lw (omega arith) (y .level) (getD v (1 + j) nan) (getD-set-same v j (getD v (1 + j) nan) nan (omega arith))
     ∙ (λ i. record { estimate = estimateOf (getD w (z₂₀ i) 0) (getD v (1 + j) nan); n = getD w (z₁₂ i) 0; s = getD w (z₁₆ i) 0 })) in
     let g : getD o₂ j 0 ≡ getD o (1 + j) 0 =
     getD-set-other o₁ (4 + j) j (getD o (5 + j) 0) 0 (λ z. omega arith) ∙ getD-set-same o j (getD o (1 + j) 0) 0 (omega arith) in
@@ -350,7 +455,7 @@ moved-up x j sized h =
           let q =
           same-place (x .f1) (x .marks) w v (y .f1) (y .marks) (y .row) (y .level) i i (getD-set-other (x .f1) j i (getD (x .f1) (1 + j) 0) 0 n)
           (getD-set-other (x .marks) j i (getD (x .marks) (1 + j) 0) 0 n) (word-rest w j a b c d e f lw (omega arith) i hi n)
-          (reference-rest w j a b c d e f lw (omega arith) i hi n v (getD v (1 + j) nan)) in
+          (reference-rest w j a b c d e f lw (omega arith) i hi n v (y .level) (getD-set-other v j i (getD v (1 + j) nan) nan n)) in
           let r : getD o₂ i 0 ≡ getD o i 0 =
           getD-set-other o₁ (4 + j) i (getD o (5 + j) 0) 0 (λ z. omega arith) ∙ getD-set-other o j i (getD o (1 + j) 0) 0 n in
           let s : getD o₂ (4 + i) 0 ≡ getD o (4 + i) 0 =

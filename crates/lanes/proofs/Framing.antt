@@ -1,14 +1,14 @@
 -- A bracket: by the columns without the phantoms, its fate, the counts, and the reply that opens.
-use Prim.Native.Nat.{ℕ, _+_, _≤_, _<_}
+use Prim.Native.Nat.{ℕ, _+_, _-_, _/_, _%_, _≤_, _<_}
 use native.Mathlib.Omega.{arith}
 use mathlib.Core.Path.{_≡_, refl, sym, ap, ap₂, _∙_, subst}
-use mathlib.Core.Bool.{Bool, true, false, not, _&&_, _||_}
+use mathlib.Core.Bool.{Bool, true, false, not, _&&_, _||_, cond, and-false}
 use mathlib.Core.List.{List}
-use lib.Dec.{leb, eqb}
+use lib.Dec.{leb, ltb, eqb}
 use lib.Bits.{bitOr}
 use lib.ListN.{length, getD}
 use lib.Ieee.{Float}
-use borrow.Author.Tests.{eqb-true, eqb-false}
+use borrow.Author.Tests.{leb-true, leb-false, eqb-true, eqb-false, lt-ltb, le-ltb}
 use Rattle.rules.specs.declared.Reply.{Reply}
 use Rattle.rules.specs.declared.Pulse.{Pulse}
 use Rattle.rules.specs.declared.Place.{Place}
@@ -19,7 +19,7 @@ use Rattle.rules.specs.declared.Bracket.the-variants.{Without, With}
 use Rattle.rules.specs.declared.Fate.{Fate}
 use Rattle.rules.specs.declared.Fate.the-variants.{Sidelobe, Garbled, Lost, Opens}
 use Rattle.rules.specs.declared.Slot.the-variants.{Open}
-use Rattle.rules.specs.Replies.{f1, position, isInside, covers, military, isPhantom}
+use Rattle.rules.specs.Replies.{f1, position, isPosition, isInside, covers, military, isPhantom}
 use Rattle.rules.specs.Machine.{openedBy, fateBy, tally}
 use Rattle.replies.specs.Sums.{capped}
 use Rattle.machine.specs.Places.{test, always, any3, anyIn, countIn, pushed, withoutIn, openedIn, fateIn, placesAfter, bracketOn, bracketIf, placed}
@@ -288,15 +288,32 @@ bracket-there x c e b f2 i t x′ c′ eb h = rw eb (record { result = λ s k z 
 
 -- ---- the tests of the four columns
 
-pub any-inside-law : (f : List ℕ) (u k0 k1 k2 k3 : ℕ) (a b c d : Bool) → k0 ≡ position (getD f 0 0) u → k1 ≡ position (getD f 1 0) u → k2 ≡ position (getD f 2 0) u → k3 ≡ position (getD f 3 0) u
-    → a ≡ isInside k0 → b ≡ isInside k1 → c ≡ isInside k2 → d ≡ isInside k3 → (a || any3 b c d) ≡ anyOf (insideFrom u) f
-unfolding insideFrom
-any-inside-law f u k0 k1 k2 k3 a b c d p0 p1 p2 p3 q0 q1 q2 q3 =
-    let r0 = q0 ∙ ap isInside p0 in
-    let r1 = q1 ∙ ap isInside p1 in
-    let r2 = q2 ∙ ap isInside p2 in
-    let r3 = q3 ∙ ap isInside p3 in
-    λ i. r0 i || any3 (r1 i) (r2 i) (r3 i)
+-- position 1 to 14 covers u, by the ticks behind F1: those of position 0 are too early, those of 17 too late
+inside-late : (q u k : ℕ) → k ≡ (u + 1 - q) / 12 → q ≤ u + 1 → (u + 1 - q) % 12 ≤ 2 → (isPosition k && (ltb (q + 1) u && ltb u (q + 203))) ≡ isInside k
+inside-late q u k ek h l = go (leb k 14) refl (eqb k 17) refl (leb 1 k) refl
+  where
+    go : (a : Bool) → leb k 14 ≡ a → (b : Bool) → eqb k 17 ≡ b → (c : Bool) → leb 1 k ≡ c → ((a || b) && (ltb (q + 1) u && ltb u (q + 203))) ≡ (c && a)
+    go true ea b eb true ec =
+        rw (lt-ltb (q + 1) u (omega (arith, leb-true 1 k ec)), lt-ltb u (q + 203) (omega (arith, leb-true k 14 ea)))
+    go true ea b eb false ec = rw (le-ltb (q + 1) u (omega (arith, leb-false 1 k ec)))
+    go false ea true eb c ec = rw (le-ltb u (q + 203) (omega (arith, eqb-true k 17 eb)), and-false (ltb (q + 1) u), and-false c)
+    go false ea false eb c ec = sym (and-false c)
+
+pub inside-law : (q u : ℕ) (c : Bool) → c ≡ coversFrom q u → (c && (ltb (q + 1) u && ltb u (q + 203))) ≡ insideFrom u q
+unfolding coversFrom insideFrom position
+inside-law q u c e =
+    ap (λ (z : Bool). z && (ltb (q + 1) u && ltb u (q + 203))) e
+    ∙ go (leb q (u + 1)) refl (leb ((u + 1 - q) % 12) 2) refl
+  where
+    go : (a : Bool) → leb q (u + 1) ≡ a → (b : Bool) → leb ((u + 1 - q) % 12) 2 ≡ b
+        → (isPosition (cond (a && b) ((u + 1 - q) / 12) 15) && (ltb (q + 1) u && ltb u (q + 203))) ≡ isInside (cond (a && b) ((u + 1 - q) / 12) 15)
+    go true ea true eb = inside-late q u ((u + 1 - q) / 12) refl (leb-true q (u + 1) ea) (leb-true ((u + 1 - q) % 12) 2 eb)
+    go true ea false eb = refl
+    go false ea b eb = refl
+
+pub any-inside-law : (f : List ℕ) (u : ℕ) (a b c d : Bool) → a ≡ insideFrom u (getD f 0 0) → b ≡ insideFrom u (getD f 1 0) → c ≡ insideFrom u (getD f 2 0) → d ≡ insideFrom u (getD f 3 0)
+    → (a || any3 b c d) ≡ anyOf (insideFrom u) f
+any-inside-law f u a b c d p0 p1 p2 p3 = λ i. p0 i || any3 (p1 i) (p2 i) (p3 i)
 
 military-as : (q u : ℕ) (c : Bool) → ((r : Reply) → f1 r ≡ q → c ≡ military u r) → c ≡ militaryFrom u q
 unfolding military militaryFrom
@@ -310,9 +327,3 @@ any-military-law f u a b c d p0 p1 p2 p3 =
     let r2 = military-as (getD f 2 0) u c p2 in
     let r3 = military-as (getD f 3 0) u d p3 in
     λ i. r0 i || any3 (r1 i) (r2 i) (r3 i)
-
-pub clear-not : (first main y : Bool) → first ≡ false → main ≡ false → false ≡ (first || (main && not y))
-clear-not first main y e₁ e₂ = sym (rw (e₁, e₂))
-
-pub clear-law : (first main x y : Bool) → first ≡ false → main ≡ true → x ≡ y → not x ≡ (first || (main && not y))
-clear-law first main x y e₁ e₂ e = ap not e ∙ sym (rw (e₁, e₂))

@@ -5,4 +5,5 @@ pub mod Loading
 pub mod HandingOut
 pub mod Purging
 pub mod Framing
+pub mod FreshBits
 pub mod Dealing

@@ -2,7 +2,7 @@
 use Prim.Native.Nat.{ℕ, zero, suc, _+_, _-_, _/_, _%_, _^_, _≤_, _<_}
 use native.Mathlib.Omega.{arith}
 use mathlib.Core.Path.{_≡_, refl, sym, ap, _∙_}
-use mathlib.Core.Bool.{Bool, true, false, not, _&&_, cond}
+use mathlib.Core.Bool.{Bool, true, false, not, _&&_, cond, and-false}
 use lib.Dec.{leb, ltb, eqb}
 use borrow.Author.Tests.{ltb-true, ltb-false, leb-true, leb-false, eqb-true, eqb-false, le-leb, lt-leb, ne-eqb}
 use Rattle.rules.specs.Replies.{position, isPosition}
@@ -125,15 +125,11 @@ far-cover k h =
 not-position : (k : ℕ) → 18 ≤ k → isPosition k ≡ false
 not-position k h = rw (lt-leb k 14 (omega arith), ne-eqb k 17 (λ e. omega arith))
 
-and-none : (a : Bool) → (a && false) ≡ false
-and-none true = refl
-and-none false = refl
-
 cover-far : (n : ℕ) → 320 ≤ n → rowBit coverWord n ≡ coverAt n
 unfolding rowBit coverAt
 cover-far n h =
     ap (λ (w : ℕ). bit w (n % 64)) (far-cover (n / 64) (omega arith)) ∙ zero-bit (n % 64)
-    ∙ sym (rw (not-position ((n - 64) / 12) (omega arith), and-none (leb ((n - 64) % 12) 2), and-none (leb 64 n)))
+    ∙ sym (rw (not-position ((n - 64) / 12) (omega arith), and-false (leb ((n - 64) % 12) 2), and-false (leb 64 n)))
 
 cover-out : (n : ℕ) → 320 ≤ n → rowBit coverWord n ≡ false
 unfolding rowBit
@@ -257,19 +253,17 @@ no-suspect q t s es = record { at = λ i u l z. zero-bit i ∙ sym (rw es) }
 
 -- ---- one tick
 
-pub covered-early : (q u : ℕ) → u < q → eqb (q - u) 1 ≡ coversFrom q u
-unfolding coversFrom position
-covered-early q u h = go (eqb (q - u) 1) refl
+-- by d, which is 2 ^ 32 + 1 + u - q: less than 2 ^ 32 before the ticks that are covered, and at least 2 ^ 32 + 256 behind them
+pub covered-by : (q u d g w : ℕ) (r : Bool) → q < 2 ^ 32 → d ≡ u + 4294967297 - q → g ≡ d % 256 + 64 → w ≡ coverWord (g / 64) → r ≡ bit w (g % 64)
+    → (ltb d 4294967552 && (leb 4294967296 d && r)) ≡ coversFrom q u
+covered-by q u d g w r lq ed eg ew er = go (ltb d 4294967552) refl (leb 4294967296 d) refl
   where
-    go : (c : Bool) → eqb (q - u) 1 ≡ c → c ≡ isPosition (cond (leb q (u + 1) && leb ((u + 1 - q) % 12) 2) ((u + 1 - q) / 12) 15)
-    go true e = let d : u + 1 - q ≡ 0 = omega (arith, eqb-true (q - u) 1 e) in rw (le-leb q (u + 1) (omega (arith, eqb-true (q - u) 1 e)), d)
-    go false e = rw (lt-leb q (u + 1) (omega (arith, eqb-false (q - u) 1 e)))
-
-pub covered-late : (q u d : ℕ) → q ≤ u → d ≡ u - q → 255 < d → false ≡ coversFrom q u
-covered-late q u d h e l = sym (covers-as q u (d + 65) (omega arith) ∙ sym (cover-all (d + 65)) ∙ cover-off)
-  where
-    cover-off : rowBit coverWord (d + 65) ≡ false
-    cover-off = cover-out (d + 65) (omega arith)
-
-pub covered-there : (q u d w : ℕ) (r : Bool) → q ≤ u → d ≡ u - q → w ≡ coverWord ((d + 65) / 64) → r ≡ bit w ((d + 65) % 64) → r ≡ coversFrom q u
-covered-there q u d w r h e ew er = er ∙ ap (λ (z : ℕ). bit z ((d + 65) % 64)) ew ∙ row-is (d + 65) ∙ covered-bit q u (d + 65) (omega arith)
+    go : (a : Bool) → ltb d 4294967552 ≡ a → (b : Bool) → leb 4294967296 d ≡ b → (a && (b && r)) ≡ coversFrom q u
+    go true ea true eb =
+        let h = ltb-true d 4294967552 ea in
+        let l = leb-true 4294967296 d eb in
+        er ∙ ap (λ (z : ℕ). bit z (g % 64)) ew ∙ row-is g ∙ covered-bit q u g (omega arith)
+    go true ea false eb = sym (not-covered q u (omega (arith, leb-false 4294967296 d eb)))
+    go false ea b eb =
+        let h = ltb-false d 4294967552 ea in
+        sym (covers-as q u (u + 65 - q) (omega arith) ∙ sym (cover-all (u + 65 - q)) ∙ cover-out (u + 65 - q) (omega arith))

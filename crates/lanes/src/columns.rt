@@ -1,11 +1,17 @@
 // Columns as numbers: read, written, moved up.
 ghost use Prim.Native.Nat.{_<_};
 ghost use mathlib.Core.Path.{_≡_};
+ghost use mathlib.Core.Bool.{cond};
 ghost use Rattle.rules.specs.declared.Slot.the-variants.{Open};
+ghost use Rattle.rules.specs.Replies.{average};
+ghost use Rattle.replies.specs.Sums.{capped};
 ghost use Rattle.lanes.specs.Columns.{marksNumber, marksOf, kindOf, estimateOf, wordAt, referenceAt, placeIn, placesIn};
 ghost use Rattle.lanes.specs.Post.{WordPost, PutPost, MovePost, DropPost};
+use replies::averaged;
 use replies::level_of;
 use replies::pick;
+use replies::plus;
+use replies::wide;
 use rules::Estimate;
 use rules::Marks;
 use rules::Place;
@@ -126,6 +132,27 @@ pub fn put_word(row: &mut [u16; 24], level: &mut [f64; 4], j: usize, w: Word, f:
     row[12 + j] = f.n;
     row[16 + j] = f.s;
     row[20 + j] = kind;
+    level[j] = x;
+}
+
+// Writes the word w of column j; if c, its reference takes in the value v.
+pub fn put_heard(row: &mut [u16; 24], level: &mut [f64; 4], j: usize, w: Word, c: bool, v: u8)
+    requires { ⌜ j < 4 ⌝ }
+    ensures { λ _. ⌜ WordPost (now (row .entry)) (now (level .entry)) j w (cond c (average capped (referenceAt (now (row .entry)) (now (level .entry)) j) v) (referenceAt (now (row .entry)) (now (level .entry)) j)) (now (row .exit)) (now (level .exit)) ⌝ }
+{
+    row[j] = w.settled;
+    row[4 + j] = w.code;
+    row[8 + j] = w.unsure;
+    let n = row[12 + j];
+    row[12 + j] = pick(c, plus(n, 1), n);
+    let s = row[16 + j];
+    let y = wide(v);
+    row[16 + j] = pick(c, plus(s, y), s);
+    row[20 + j] = pick(c, 1, row[20 + j]);
+    if !c {
+        return;
+    }
+    let x = averaged(level[j], v);
     level[j] = x;
 }
 

@@ -78,17 +78,12 @@ pub fn phantom_mask(q: u32, suspect: bool, t: u32) -> u64
     across(a, b, g % 64)
 }
 
-// Whether a reply with F1 at q covers u.
+// Whether a reply with F1 at q covers u. The ticks from q-1 to q+254 have d from 2^32 to 2^32+255.
 pub fn covered(q: u32, u: u32) -> bool
     ensures { λ r. ⌜ r ≡ coversFrom q u ⌝ }
 {
-    if u < q {
-        return q - u == 1;
-    }
-    let d = u - q;
-    if 255 < d {
-        return false;
-    }
-    let w = cover_word((d + 65) / 64);
-    marked(w, (d + 65) % 64)
+    let d = u as u64 + 4294967297 - q as u64;
+    let g = (d % 256 + 64) as u32;
+    let w = cover_word(g / 64);
+    (d < 4294967552) & ((4294967296 <= d) & marked(w, g % 64))
 }

@@ -1,10 +1,10 @@
 // What an edge makes of the columns: replies that are over are handed out, a bracket is judged, and the edge goes to the open replies.
-ghost use Prim.Native.Nat.{_<_, _≤_};
+ghost use Prim.Native.Nat.{_^_, _<_, _≤_};
 ghost use mathlib.Core.Path.{_≡_};
-ghost use mathlib.Core.Bool.{true, _||_, _&&_, not};
+ghost use mathlib.Core.Bool.{true, _||_, _&&_, not, cond};
 ghost use lib.ListN.{getD};
 ghost use lib.Ieee.{nan};
-ghost use Rattle.rules.specs.Replies.{position as position′, near as near′};
+ghost use Rattle.rules.specs.Replies.{position as position′, isPosition, bitOf, takes, near as near′};
 ghost use Rattle.edges.specs.Words.{bit};
 ghost use Rattle.rules.specs.Settings.{standard};
 ghost use Rattle.machine.specs.Places.{any3 as any3′};
@@ -12,10 +12,9 @@ ghost use Rattle.lanes.specs.Masks.{coversFrom, MaskPost};
 ghost use Rattle.lanes.specs.Post.{LoadPost, MasksPost, HandPost, DropIfPost, PurgePost, OpenPost, FramePost, BracketPost, HearPost, HearIfPost, DealPost, anyOf, insideFrom, militaryFrom, freeIn, twiceIn, whichOf};
 use super::columns::drop_column;
 use super::columns::place_at;
+use super::columns::put_heard;
 use super::columns::put_place;
 use super::columns::put_reply;
-use super::columns::put_word;
-use super::columns::reference_at;
 use super::columns::word_at;
 use super::masks::cover_mask;
 use super::masks::covered;
@@ -28,14 +27,10 @@ use machine::tallied;
 use records::hand_one;
 use replies::code_of;
 use replies::ended;
-use replies::inside;
 use replies::military;
 use replies::near;
-use replies::position;
-use replies::refer;
-use replies::settle;
+use replies::settle_bit;
 use replies::sure_of;
-use replies::takes;
 use rules::Bracket;
 use rules::Counts;
 use rules::Fate;
@@ -177,14 +172,21 @@ fn purge(
     a + (b + (c + d))
 }
 
+// A reply with F1 at q covers u at position 1 to 14.
+fn inside_from(q: u32, u: u32) -> bool
+    ensures { λ r. ⌜ r ≡ insideFrom u q ⌝ }
+{
+    covered(q, u) & (((q as u64 + 1) < u as u64) & ((u as u64) < q as u64 + 203))
+}
+
 // An open reply covers u at position 1 to 14.
 fn any_inside(f1: &[u32; 4], u: u32) -> bool
     ensures { λ r. ⌜ r ≡ anyOf (insideFrom u) (now (f1 .entry)) ⌝ }
 {
-    let a = inside(position(f1[0], u));
-    let b = inside(position(f1[1], u));
-    let c = inside(position(f1[2], u));
-    let d = inside(position(f1[3], u));
+    let a = inside_from(f1[0], u);
+    let b = inside_from(f1[1], u);
+    let c = inside_from(f1[2], u);
+    let d = inside_from(f1[3], u);
     any4(a, b, c, d)
 }
 
@@ -214,13 +216,7 @@ fn any_covered(f1: &[u32; 4], u: u32) -> bool
 fn is_clear(f1: &[u32; 4], first: bool, main: bool, w: u32) -> bool
     ensures { λ r. ⌜ r ≡ (first || (main && not (anyOf (λ q. coversFrom q w) (now (f1 .entry))))) ⌝ }
 {
-    if first {
-        return true;
-    }
-    if !main {
-        return false;
-    }
-    !any_covered(f1, w)
+    first | (main & !any_covered(f1, w))
 }
 
 // The first idle column, or the last.
@@ -331,6 +327,15 @@ fn covering(q: u32, u: u32) -> u32
     ((u - q) % 256 + 1) / 12
 }
 
+// The bit of position k, which covers, where edges settle it and `settled` does not have it; else 0. Position 0 gives bit 15, which the mask clears.
+fn fresh_bit(settled: u16, k: u32) -> u16
+    ensures is { λ b. ⌜ (isPosition k ≡ true → b ≡ cond (takes k settled) (2 ^ bitOf k) 0) ⌝ }
+    ensures most { λ b. ⌜ b ≤ 16384 ⌝ }
+{
+    let j = (k % 32 + 15 - 2 * (k % 32 / 16)) % 16;
+    (1u16 << j) & (32767 - settled % 32768)
+}
+
 // The edge e at column j, which covers it.
 fn hear(
     f1: &[u32; 4],
@@ -345,18 +350,13 @@ fn hear(
     ensures { λ _. ⌜ HearPost (now (f1 .entry)) (now (row .entry)) (now (level .entry)) j e own other (now (row .exit)) (now (level .exit)) ⌝ }
 {
     let u = e.tick;
-    let q = f1[j];
-    let k = covering(q, u.0);
+    let k = covering(f1[j], u.0);
     let w = word_at(row, j);
-    if !takes(w.settled, k) {
-        return;
-    }
+    let b = fresh_bit(w.settled, k);
     let code = code_of(e.main, own, other);
     let sure = sure_of(e.main, own, other);
-    let f = reference_at(row, level, j);
-    let x = settle(w, k, code, sure);
-    let g = refer(sure, f, e.value);
-    put_word(row, level, j, x, g);
+    let x = settle_bit(w, b, code, sure);
+    put_heard(row, level, j, x, (b != 0) & sure, e.value);
 }
 
 fn hear_if(

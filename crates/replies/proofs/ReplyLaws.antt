@@ -1,103 +1,28 @@
--- What the code computes of a reply is what the rules say: positions, tests by ticks, code and confidence, bits, constants.
-use Prim.Native.Nat.{ℕ, _+_, _-_, _*_, _/_, _%_, _^_, _≤_, _<_}
+-- What the code computes of a reply is what the rules say: tests by ticks, code and confidence, constants, settling.
+use Prim.Native.Nat.{ℕ, _+_, _^_, _≤_}
 use native.Mathlib.Omega.{arith}
-use mathlib.Core.Path.{_≡_, refl, sym}
+use mathlib.Core.Path.{_≡_, refl, sym, ap, _∙_}
 use mathlib.Core.Bool.{Bool, true, false, not, _&&_, _||_, cond}
 use lib.Dec.{leb, ltb, eqb}
-use lib.Pow.{pow-mono}
+use lib.Pow.{pow-pos}
 use lib.IntN.{negsuc}
 use lib.Ieee.{fin, binary64, ofBits}
-use borrow.Author.Tests.{lt-ltb, le-ltb, ltb-true, ltb-false, le-leb, lt-leb, leb-true, leb-false, eqb-true, eqb-false, eq-eqb, ne-eqb}
+use borrow.Author.Tests.{eq-eqb, ne-eqb}
 use Rattle.rules.specs.declared.Reply.{Reply}
-use Rattle.rules.specs.Samples.{bit}
-use Rattle.rules.specs.Replies.{f1, position, isInside, ended, military, number, verdict, bitOf, takes}
-use Rattle.rules.proofs.Truth.{and-left, and-right}
-
--- ---- positions
-
--- what passes and what fails, by the test's two sides
-and-no : (a b : Bool) → b ≡ false → (a && b) ≡ false
-and-no true b h = h
-and-no false b h = refl
-
--- a tick before F1: only the one just before it is covered
-pub position-early : (q u : ℕ) → u < q → cond (eqb (q - u) 1) 0 15 ≡ position q u
-unfolding position
-position-early q u h = go (eqb (q - u) 1) refl
-  where
-    go : (b : Bool) → eqb (q - u) 1 ≡ b → cond b 0 15 ≡ cond (leb q (u + 1) && leb ((u + 1 - q) % 12) 2) ((u + 1 - q) / 12) 15
-    go true e =
-        let k = eqb-true (q - u) 1 e in
-        let z : u + 1 - q ≡ 0 = omega arith in
-        rw (le-leb q (u + 1) (omega arith), z)
-    go false e =
-        let k = eqb-false (q - u) 1 e in
-        rw (lt-leb q (u + 1) (more q u h k))
-      where
-        more : (q u : ℕ) → u < q → (q - u ≡ 1 → ⊥) → u + 1 < q
-        more q u h k = omega (arith, k)
-
-module _ (q u : ℕ) (h : q ≤ u) where
-  -- d ticks after F1, where d + 1 leaves more than 2 by 12
-  pub position-off : ltb 1 ((u - q) % 12) && ltb ((u - q) % 12) 11 ≡ true → 15 ≡ position q u
-  unfolding position
-  position-off t =
-      let a = ltb-true 1 ((u - q) % 12) (and-left (ltb 1 ((u - q) % 12)) (ltb ((u - q) % 12) 11) t) in
-      let b = ltb-true ((u - q) % 12) 11 (and-right (ltb 1 ((u - q) % 12)) (ltb ((u - q) % 12) 11) t) in
-      rw (and-no (leb q (u + 1)) (leb ((u + 1 - q) % 12) 2) (lt-leb ((u + 1 - q) % 12) 2 (omega arith)))
-
-  -- or at most 2
-  low : (x : ℕ) → ltb 1 x && ltb x 11 ≡ false → x < 12 → (x + 1) % 12 ≤ 2
-  low x t b = go (ltb 1 x) refl
-    where
-      go : (c : Bool) → ltb 1 x ≡ c → (x + 1) % 12 ≤ 2
-      go true e = let k = ltb-false x 11 (rw e at t) in omega arith
-      go false e = let k = ltb-false 1 x e in omega arith
-
-  pub position-on : ltb 1 ((u - q) % 12) && ltb ((u - q) % 12) 11 ≡ false → (u - q) / 12 + (u - q) % 12 / 11 ≡ position q u
-  unfolding position
-  position-on t =
-      let b = low ((u - q) % 12) t (omega arith) in
-      rw (le-leb q (u + 1) (omega arith), le-leb ((u + 1 - q) % 12) 2 (omega arith)) (omega arith)
+use Rattle.rules.specs.declared.Word.{Word}
+use Rattle.rules.specs.Replies.{f1, ended, military, number, verdict, bitOf, settle}
+use Rattle.replies.specs.Sums.{capped}
 
 -- ---- tests by ticks
 
 module _ (q u : ℕ) (r : Reply) (e : f1 r ≡ q) where
-  pub ended-before : u < q → false ≡ ended u r
+  pub ended-is : ltb (q + 205) u ≡ ended u r
   unfolding ended
-  ended-before h = sym (le-ltb (f1 r + 205) u (omega arith))
+  ended-is = ap (λ (y : ℕ). ltb (y + 205) u) (sym e)
 
-  pub ended-after : q ≤ u → ltb 205 (u - q) ≡ ended u r
-  unfolding ended
-  ended-after h = go (ltb 205 (u - q)) refl
-    where
-      go : (b : Bool) → ltb 205 (u - q) ≡ b → b ≡ ltb (f1 r + 205) u
-      go true t = sym (lt-ltb (f1 r + 205) u (omega (arith, ltb-true 205 (u - q) t)))
-      go false t = sym (le-ltb (f1 r + 205) u (omega (arith, ltb-false 205 (u - q) t)))
-
-  -- from the tick q + a on
-  from : (a : ℕ) → q ≤ u → leb a (u - q) ≡ leb (f1 r + a) u
-  from a h = go (leb a (u - q)) refl
-    where
-      go : (b : Bool) → leb a (u - q) ≡ b → b ≡ leb (f1 r + a) u
-      go true t = sym (le-leb (f1 r + a) u (omega (arith, leb-true a (u - q) t)))
-      go false t = sym (lt-leb (f1 r + a) u (omega (arith, leb-false a (u - q) t)))
-
-  -- to the tick q + a
-  to : (a : ℕ) → q ≤ u → leb (u - q) a ≡ leb u (f1 r + a)
-  to a h = go (leb (u - q) a) refl
-    where
-      go : (b : Bool) → leb (u - q) a ≡ b → b ≡ leb u (f1 r + a)
-      go true t = sym (le-leb u (f1 r + a) (omega (arith, leb-true (u - q) a t)))
-      go false t = sym (lt-leb u (f1 r + a) (omega (arith, leb-false (u - q) a t)))
-
-  pub military-before : u < q → false ≡ military u r
+  pub military-is : leb (q + 203) u && leb u (q + 205) ≡ military u r
   unfolding military
-  military-before h = rw (lt-leb (f1 r + 203) u (omega arith))
-
-  pub military-after : q ≤ u → leb 203 (u - q) && leb (u - q) 205 ≡ military u r
-  unfolding military
-  military-after h = rw (from 203 h, to 205 h)
+  military-is = ap (λ (y : ℕ). leb (y + 203) u && leb u (y + 205)) (sym e)
 
 -- ---- code and confidence
 
@@ -125,44 +50,40 @@ pub half : ofBits binary64 0x3fe0000000000000 ≡ fin false 1 (negsuc 0)
 unfolding ofBits
 half = refl
 
--- ---- bits
+-- ---- settling
 
-pub bit-spi : (k : ℕ) → k ≡ 17 → 14 ≡ bitOf k
-bit-spi k e = rw (eq-eqb k 17 e)
+-- a bit is not 0
+pub bit-some : (t : Bool) (n b : ℕ) → b ≡ cond t (2 ^ n) 0 → not (eqb b 0) ≡ t
+bit-some true n b e = ap not (ne-eqb b 0 (λ z. omega (arith, e, z, pow-pos n)))
+bit-some false n b e = ap not (eq-eqb b 0 e)
 
-pub bit-none : (k : ℕ) → k ≡ 0 → 0 ≡ bitOf k
-bit-none k e = rw e
-
-pub bit-other : (k : ℕ) → (k ≡ 17 → ⊥) → k - 1 ≡ bitOf k
-bit-other k h = rw (ne-eqb k 17 h)
-
-pub power-is : (j : ℕ) → j ≤ 14 → ((1 * 2 ^ j) % 2 ^ 16 ≡ 2 ^ j) × ((1 * 2 ^ j) % 2 ^ 16 ≤ 16384)
-power-is j h =
-    let l : 2 ^ j ≤ 16384 = pow-mono {i = j} {j = 14} h in
-    let e : (1 * 2 ^ j) % 2 ^ 16 ≡ 2 ^ j = omega arith in
-    (e, omega arith)
-
--- a position that edges settle has one of the 15 bits
-pub settles-bit : (k : ℕ) → (isInside k || eqb k 17) ≡ true → bitOf k ≤ 14
-settles-bit k h = go (eqb k 17) refl
+pub settle-bit-law : (t : Bool) (k b : ℕ) (code sure : Bool) (w : Word) → b ≡ cond t (2 ^ bitOf k) 0
+    → _≡_ {A = Word}
+    (record {
+      settled = cond (not (eqb b 0)) (capped (w .settled) b) (w .settled);
+      code = cond (not (eqb b 0)) (capped (w .code) (cond code b 0)) (w .code);
+      unsure = cond (not (eqb b 0)) (capped (w .unsure) (cond sure 0 b)) (w .unsure);
+    })
+    (cond t (settle capped k (record { code = code; confidence = sure }) w) w)
+settle-bit-law t k b code sure w e =
+    let g = bit-some t (bitOf k) b e in
+    (λ i. record {
+      settled = cond (g i) (capped (w .settled) (e i)) (w .settled);
+      code = cond (g i) (capped (w .code) (cond code (e i) 0)) (w .code);
+      unsure = cond (g i) (capped (w .unsure) (cond sure 0 (e i))) (w .unsure);
+    })
+    ∙ go t
   where
-    or-false : (a : Bool) → (a || false) ≡ true → a ≡ true
-    or-false true h = refl
-    or-false false h = h
-
-    go : (b : Bool) → eqb k 17 ≡ b → cond b 14 (k - 1) ≤ 14
-    go true e = omega arith
-    go false e = omega (arith, leb-true k 14 (and-right (leb 1 k) (leb k 14) (or-false (isInside k) (rw e at h))))
-
--- so has one that is taken
-pub takes-bit : (k w : ℕ) → takes k w ≡ true → bitOf k ≤ 14
-takes-bit k w h = settles-bit k (and-left (isInside k || eqb k 17) (not (bit (bitOf k) w)) h)
-
-pub takes-none : (k w : ℕ) → (isInside k || eqb k 17) ≡ false → false ≡ takes k w
-takes-none k w h = rw h
-
-pub takes-some : (k w : ℕ) → (isInside k || eqb k 17) ≡ true → not (bit (bitOf k) w) ≡ takes k w
-takes-some k w h = rw h
+    go : (y : Bool)
+        → _≡_ {A = Word}
+        (record {
+          settled = cond y (capped (w .settled) (cond y (2 ^ bitOf k) 0)) (w .settled);
+          code = cond y (capped (w .code) (cond code (cond y (2 ^ bitOf k) 0) 0)) (w .code);
+          unsure = cond y (capped (w .unsure) (cond sure 0 (cond y (2 ^ bitOf k) 0))) (w .unsure);
+        })
+        (cond y (settle capped k (record { code = code; confidence = sure }) w) w)
+    go true = refl
+    go false = refl
 
 pub cond-most : (b : Bool) (x y n : ℕ) → x ≤ n → y ≤ n → cond b x y ≤ n
 cond-most true x y n h k = h

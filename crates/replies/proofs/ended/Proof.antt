@@ -1,13 +1,14 @@
 -- `replies::ended` meets its contract.
-use Rattle.replies.proofs.ReplyLaws.{ended-before, ended-after}
+use borrow.Author.Needs.{needs}
+use Rattle.replies.proofs.ReplyLaws.{ended-is}
 use Rattle.replies.proofs.ended.Statement.{statement}
 use Rattle.replies.proofs.ended.Tie as tie
 
-returns : tie.Need-returns
-returns c = λ r e. ended-before (c .before .args .q) (c .before .args .u) r e (c .if1 .taken)
+add-result : tie.Need-add-result
+add-result c = search needs
 
-returns-2 : tie.Need-returns-2
-returns-2 c = λ r e. ended-after (c .before .args .q) (c .before .args .u) r e (c .if1 .left)
+returns : tie.Need-returns
+returns c = λ r e. ended-is (c .args .q) (c .args .u) r e
 
 pub ended-spec : {M : Type 1} → statement M
-ended-spec = tie.close (tie.spec returns returns-2)
+ended-spec = tie.close (tie.spec add-result returns)

@@ -1,13 +1,17 @@
 -- `replies::military` meets its contract.
-use Rattle.replies.proofs.ReplyLaws.{military-before, military-after}
+use borrow.Author.Needs.{needs}
+use Rattle.replies.proofs.ReplyLaws.{military-is}
 use Rattle.replies.proofs.military.Statement.{statement}
 use Rattle.replies.proofs.military.Tie as tie
 
-returns : tie.Need-returns
-returns c = λ r e. military-before (c .before .args .q) (c .before .args .u) r e (c .if1 .taken)
+add-result : tie.Need-add-result
+add-result c = search needs
 
-returns-2 : tie.Need-returns-2
-returns-2 c = λ r e. military-after (c .before .args .q) (c .before .args .u) r e (c .if1 .left)
+add-result-2 : tie.Need-add-result-2
+add-result-2 c = search needs
+
+returns : tie.Need-returns
+returns c = λ r e. military-is (c .args .q) (c .args .u) r e
 
 pub military-spec : {M : Type 1} → statement M
-military-spec = tie.close (tie.spec returns returns-2)
+military-spec = tie.close (tie.spec add-result add-result-2 returns)

@@ -1,93 +1,53 @@
-use mathlib.Core.Bool.{cond}
-use Rattle.replies.specs.Sums.{capped}
-use Rattle.replies.proofs.ReplyLaws.{takes-bit}
-use Rattle.rules.specs.Replies.{takes, settle, average}
-use Rattle.rules.specs.declared.Reference.{Reference}
-use Rattle.rules.specs.declared.Word.{Word}
-use Rattle.lanes.proofs.Dealing.{hear-nothing, hear-settles}
-use mathlib.Core.Path.{refl, sym, ap, _∙_}
-use borrow.Author.Tests.{not-true, not-false}
+use Rattle.lanes.proofs.Dealing.{hear-by}
 use borrow.Author.Needs.{needs}
 use Rattle.lanes.proofs.steps.hear.Statement.{statement}
 use Rattle.lanes.proofs.steps.hear.Tie as tie
-use Rattle.lanes.proofs.steps.hear.Reads as reads
-use Rattle.lanes.proofs.steps.hear.Lts as lts
-use Rattle.lanes.proofs.columns.put_word.Reads as put-word-reads
-use Rattle.lanes.proofs.columns.reference_at.Reads as reference-at-reads
-use Rattle.lanes.proofs.columns.word_at.Reads as word-at-reads
-use Rattle.lanes.proofs.steps.covering.Reads as covering-reads
-use Rattle.replies.proofs.code_of.Reads as code-of-reads
-use Rattle.replies.proofs.refer.Reads as refer-reads
-use Rattle.replies.proofs.settle.Reads as settle-reads
-use Rattle.replies.proofs.sure_of.Reads as sure-of-reads
-use Rattle.replies.proofs.takes.Reads as takes-reads
 
--- src/steps.rt:341:13
-mul-q : tie.Need-mul-q
-mul-q c = search needs
+mul-covering : tie.Need-mul-covering
+mul-covering c = search needs
 
--- src/steps.rt:341:13
-element-copy-out-q : tie.Need-element-copy-out-q
-element-copy-out-q c = search needs
+element-copy-out-covering : tie.Need-element-copy-out-covering
+element-copy-out-covering c = search needs
 
--- src/steps.rt:342:9
 covering-requires : tie.Need-covering-requires
 covering-requires c κs = search needs
 
--- src/steps.rt:343:9
 word-at-requires : tie.Need-word-at-requires
 word-at-requires c κs = search needs
 
--- src/steps.rt:344:9
-takes-requires : tie.Need-takes-requires
-takes-requires c κs = search needs
+fresh-bit-requires : tie.Need-fresh-bit-requires
+fresh-bit-requires c κs = search needs
 
--- src/steps.rt:345:9
-returns : tie.Need-returns
-returns c = hear-nothing (c .before .before .before .before .before .before .before .args .f1 .now) (c .before .before .before .before .before .before .before .args .row .now) (c .before .before .before .before .before .before .before .args .level .now) (c .before .before .before .before .before .before .before .args .j) (c .before .before .before .before .before .before .before .args .e) (c .before .before .before .before .before .before .before .args .own) (c .before .before .before .before .before .before .before .args .other) _ (c .before .before .before .before .covering .ensures) _ (c .before .takes .ensures ∙ ap (λ (z : Word). takes (c .before .before .before .before .covering .result) (z .settled)) (c .before .before .word-at .ensures)) (not-true _ (c .if1 .taken))
-
--- src/steps.rt:347:9
 code-of-requires : tie.Need-code-of-requires
 code-of-requires c κs = search needs
 
--- src/steps.rt:348:9
 sure-of-requires : tie.Need-sure-of-requires
 sure-of-requires c κs = search needs
 
--- src/steps.rt:349:9
-reference-at-requires : tie.Need-reference-at-requires
-reference-at-requires c κs = search needs
+settle-bit-requires : tie.Need-settle-bit-requires
+settle-bit-requires c κs = search needs
 
--- src/steps.rt:350:9
-settle-requires : tie.Need-settle-requires
-settle-requires c κs = takes-bit (c .before .before .before .before .before .before .before .before .before .covering .result) (c .before .before .before .before .before .before .before .word-at .result .settled) (sym (c .before .before .before .before .before .before .takes .ensures) ∙ not-false _ (c .before .before .before .before .before .if1 .left))
+put-heard-requires : tie.Need-put-heard-requires
+put-heard-requires c κs = search needs
 
--- src/steps.rt:351:9
-refer-requires : tie.Need-refer-requires
-refer-requires c κs = search needs
-
--- src/steps.rt:352:5
-put-word-requires : tie.Need-put-word-requires
-put-word-requires c κs = search needs
-
--- src/steps.rt:328:1
-returns-2 : tie.Need-returns-2
-returns-2 c = hear-settles (c .before .before .before .before .before .before .before .before .before .before .before .before .before .before .before .before .before .args .f1 .now) (c .before .before .before .before .before .before .before .before .before .before .before .before .before .before .before .before .before .args .row .now) (c .before .before .before .before .before .before .before .before .before .before .before .before .before .before .before .before .before .args .level .now) (c .before .before .before .before .before .before .before .before .before .before .before .before .before .before .before .before .before .args .j) (c .before .before .before .before .before .before .before .before .before .before .before .before .before .before .before .before .before .args .e) (c .before .before .before .before .before .before .before .before .before .before .before .before .before .before .before .before .before .args .own) (c .before .before .before .before .before .before .before .before .before .before .before .before .before .before .before .before .before .args .other) _ (c .before .before .before .before .before .before .before .before .before .before .before .before .before .before .covering .ensures) _ (c .before .before .before .before .before .before .before .before .before .before .before .takes .ensures ∙ ap (λ (z : Word). takes (c .before .before .before .before .before .before .before .before .before .before .before .before .before .before .covering .result) (z .settled)) (c .before .before .before .before .before .before .before .before .before .before .before .before .word-at .ensures)) (not-false _ (c .before .before .before .before .before .before .before .before .before .before .if1 .left)) _ _ (c .before .before .before .before .before .before .before .before .before .code-of .ensures) (c .before .before .before .before .before .before .before .before .sure-of .ensures) _ (c .before .before .before .before .settle .ensures ∙ ap (settle capped (c .before .before .before .before .before .before .before .before .before .before .before .before .before .before .covering .result) (record { code = c .before .before .before .before .before .before .before .before .before .code-of .result; confidence = c .before .before .before .before .before .before .before .before .sure-of .result })) (c .before .before .before .before .before .before .before .before .before .before .before .before .word-at .ensures)) _ (c .before .before .before .refer .ensures ∙ ap (λ (z : Reference). cond (c .before .before .before .before .before .before .before .before .sure-of .result) (average capped z (c .before .before .before .before .before .before .before .before .before .before .before .before .before .before .before .before .before .args .e .value)) z) (c .before .before .before .before .before .reference-at .ensures)) _ _ (c .put-word .ensures)
+returns : tie.Need-returns
+returns c =
+    let args = c .before .before .before .before .before .before .before .before .before .before .before .before .args in
+    hear-by (args .f1 .now) (args .row .now) (args .level .now) (args .j) (args .e) (args .own) (args .other) _ (c .before .before .before .before .before .before .before .before .before .covering .ensures) _
+    (c .before .before .before .before .before .before .before .word-at .ensures) _ (c .before .before .before .before .before .before .fresh-bit .ensures .0) _ _ (c .before .before .before .before .before .code-of .ensures) (c .before .before .before .before .sure-of .ensures) _
+    (c .before .before .before .settle-bit .ensures) _ _ (c .put-heard .ensures)
 
 pub hear-spec : {M : Type 1} → statement M
 hear-spec =
     tie.close
     (tie.spec
-    mul-q
-    element-copy-out-q
+    mul-covering
+    element-copy-out-covering
     covering-requires
     word-at-requires
-    takes-requires
-    returns
+    fresh-bit-requires
     code-of-requires
     sure-of-requires
-    reference-at-requires
-    settle-requires
-    refer-requires
-    put-word-requires
-    returns-2)
+    settle-bit-requires
+    put-heard-requires
+    returns)
