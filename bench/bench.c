@@ -113,7 +113,8 @@ static void time_scenes(double seconds)
     for (int scene = 0; scene < SCENES; scene++) {
         paint_scene(scene, &measured);
         printf("edges\t%s\t%.1f\n", scenes[scene].name, 1000 * count_edges(&measured) / ticks);
-        for (size_t j = 0; j < PIECES; j++) {
+        const size_t count = scenes[scene].content == SHORT_RUNS ? 1 : PIECES;     /* only for the edge rows */
+        for (size_t j = 0; j < count; j++) {
             const work w = { &measured, SWEEPS, ARP_SWEEP, pieces[j], 1 };
             pair p;
             time_all(1, &w, &p, seconds);
@@ -123,7 +124,8 @@ static void time_scenes(double seconds)
     }
 }
 
-/* A sweep of n ticks, one of ten times the same n ticks, and an empty one: what opening and closing take. */
+/* Ten sweeps of the same n ticks, one sweep of these ten times n ticks, and an empty one: what opening and closing take.
+   The ten stand one behind the other, so that both read the same memory. */
 static void time_growth(int scene, double seconds)
 {
     const size_t n = GROWTH_TICKS;
@@ -132,9 +134,11 @@ static void time_growth(int scene, double seconds)
         memcpy(measured.flags + i * n, measured.flags, n);
         memcpy(measured.values + i * n, measured.values, n);
     }
-    const work w[3] = { { &measured, 1, 0, ARP_PIECE, 400 }, { &measured, 1, n, ARP_PIECE, 100 }, { &measured, 1, 10 * n, ARP_PIECE, 10 } };
+    const work w[3] = { { &measured, 1, 0, ARP_PIECE, 400 }, { &measured, 10, n, ARP_PIECE, 10 }, { &measured, 1, 10 * n, ARP_PIECE, 10 } };
     pair p[3];
     time_all(3, w, p, 3 * seconds);
+    p[1].yardstick /= 10;
+    p[1].proved /= 10;
     printf("growth\t%s\t%zu\t%.1f\t%.1f\t%.1f\t%.1f\t%.1f\t%.1f\n", scenes[scene].name, n, 1e9 * p[0].yardstick,
            1e9 * p[1].yardstick, 1e9 * p[2].yardstick, 1e9 * p[0].proved, 1e9 * p[1].proved, 1e9 * p[2].proved);
 }

@@ -14,6 +14,7 @@ const scene scenes[SCENES] = {
     { "40 replies per 1,000 ticks", REPLIES, 40 },
     { "random flags", RANDOM_FLAGS, 0 },
     { "long runs", LONG_RUNS, 0 },
+    { "flags without an edge", SHORT_RUNS, 0 },
 };
 
 /* splitmix64 */
@@ -100,6 +101,15 @@ static void paint_runs(uint64_t *random, uint8_t *flags, uint8_t *values, size_t
     }
 }
 
+/* Mainbeam runs of one tick, too short for a pulse, with 2 to 30 ticks between them: flags in every 64 ticks, and no edge. */
+static void paint_specks(uint64_t *random, uint8_t *flags, uint8_t *values, size_t n)
+{
+    for (size_t t = 0; t < n; t += 3 + under(random, 29)) {
+        flags[t] = A | M;
+        values[t] = (uint8_t)under(random, 256);
+    }
+}
+
 void paint_trace(const scene *scene, uint64_t seed, uint8_t *flags, uint8_t *values, size_t n)
 {
     uint64_t random = seed;
@@ -109,5 +119,6 @@ void paint_trace(const scene *scene, uint64_t seed, uint8_t *flags, uint8_t *val
     case REPLIES: paint_replies(&random, scene->density, flags, values, n); break;
     case RANDOM_FLAGS: paint_random(&random, flags, values, n); break;
     case LONG_RUNS: paint_runs(&random, flags, values, n); break;
+    case SHORT_RUNS: paint_specks(&random, flags, values, n); break;
     }
 }

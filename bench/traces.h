@@ -5,7 +5,7 @@
 #include <stdint.h>
 
 /* What a trace is made of. */
-typedef enum { REPLIES, RANDOM_FLAGS, LONG_RUNS } content;
+typedef enum { REPLIES, RANDOM_FLAGS, LONG_RUNS, SHORT_RUNS } content;
 
 typedef struct {
     const char *name;
@@ -13,7 +13,7 @@ typedef struct {
     double density;     /* replies per 1,000 ticks; 0 is a quiet channel */
 } scene;
 
-enum { SCENES = 7 };
+enum { SCENES = 8 };
 extern const scene scenes[SCENES];
 
 /* Fills n flags and n values. The same scene, n and seed always give the same trace. */
