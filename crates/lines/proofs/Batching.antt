@@ -36,10 +36,13 @@ use Rattle.frames.proofs.Printing.{over-at-length, Putting, putting-start, putt
 use Rattle.lines.specs.declared.batch.Gathering.{Gathering}
 use Rattle.lines.specs.declared.batch.Batched.{Batched}
 use Rattle.lines.specs.declared.scan.Scan.the-variants.{Rest}
-use Rattle.lines.specs.Survey.{Outcome, goes, takenAs, freshOf, carried, lineAt, linesIn, further, surveyed}
-use Rattle.lines.specs.Post.{pieceOf, countIn, LineEnd, Scans}
+use Rattle.ends.specs.Ends.{LineEnd}
+use Rattle.carry.specs.Outcomes.{Outcome, goes, takenAs, freshOf, carried, lineAt}
+use Rattle.carry.specs.Post.{pieceOf, countIn}
+use Rattle.lines.specs.Survey.{linesIn, further, surveyed}
+use Rattle.lines.specs.Post.{Scans}
 use Rattle.lines.specs.Batches.{beginsSamples, samplesIn, AddPost, Takes, Gathered, GatherPost, batchAs, printedAs, TakeAllPost, BatchPost}
-use Rattle.lines.proofs.Carrying.{Wrote, write-inside, flags-lent, values-lent, said-most, turned-down, given-back, carried-out, went-on, replies-wrote}
+use Rattle.carry.proofs.Carrying.{Wrote, write-inside, flags-lent, values-lent, said-most, turned-down, given-back, carried-out, went-on, replies-wrote}
 use Rattle.lines.proofs.Scanning.{good-take, part, survey-first}
 
 -- ---- the first two characters

@@ -19,8 +19,10 @@ use Rattle.frames.specs.Writing.{replyLines}
 use Rattle.lines.specs.declared.batch.Gathering.{Gathering}
 use Rattle.lines.specs.declared.batch.Batched.{Batched}
 use Rattle.lines.specs.declared.scan.Scan.the-variants.{Rest}
-use Rattle.lines.specs.Survey.{freshOf, linesIn, surveyed}
-use Rattle.lines.specs.Post.{pieceOf, Scans}
+use Rattle.carry.specs.Outcomes.{freshOf}
+use Rattle.carry.specs.Post.{pieceOf}
+use Rattle.lines.specs.Survey.{linesIn, surveyed}
+use Rattle.lines.specs.Post.{Scans}
 
 -- ---- the samples of lines
 
