@@ -28,15 +28,16 @@ use Rattle.sweep.specs.declared.Closed.{Closed}
 use Rattle.sweep.specs.State.{Sweep, none, running, processorOf, runningProcessor, idleProcessor, Made}
 use Rattle.sweep.specs.Post.{openAs, openOf, longer, handedOut, countOf, takeVerdict, takeAs, takeBufferAs, TakePost, closeVerdict, leftOver, leftCount, totalsOf, closeAs, closeBufferAs, ClosePost}
 use Rattle.sweep.proofs.Answers.{standard-allowed, first-records}
-use Rattle.frames.specs.declared.Line.{Line}
-use Rattle.frames.specs.declared.Line.the-variants.{Frame as Framed, Refused as Unread}
-use Rattle.frames.specs.declared.Frame.{Frame}
-use Rattle.frames.specs.declared.Frame.the-variants.{Samples}
+use Rattle.reading.specs.declared.Line.{Line}
+use Rattle.reading.specs.declared.Line.the-variants.{Frame as Framed, Refused as Unread}
+use Rattle.reading.specs.declared.Frame.{Frame}
+use Rattle.reading.specs.declared.Frame.the-variants.{Samples}
 use Rattle.frames.specs.Writing.{replyLines, recordLines, totalsLine, refusalLine}
-use Rattle.frames.specs.Frames.{Reading, opening, samples, closing, reading}
-use Rattle.frames.specs.Frames.{refused as unread}
-use Rattle.frames.specs.Post.{lineOf, flagsAfter, valuesAfter, ReadPost, placeBehind, bufferWith, WritePost}
-use Rattle.frames.proofs.Sizes.{Sized, reading-sized}
+use Rattle.reading.specs.Frames.{Reading, opening, samples, closing, reading}
+use Rattle.reading.specs.Frames.{refused as unread}
+use Rattle.reading.specs.Post.{lineOf, flagsAfter, valuesAfter, ReadPost}
+use Rattle.frames.specs.Post.{placeBehind, bufferWith, WritePost}
+use Rattle.reading.proofs.Sizes.{Sized, reading-sized}
 use Rattle.frames.proofs.Printing.{over-at-length, lines-length, reply-lines, totals-length}
 use Rattle.carry.specs.declared.Step.{Step}
 use Rattle.carry.specs.declared.Step.the-variants.{Goes, Stops, Full}

@@ -7,11 +7,11 @@ use mathlib.Core.List.{List}
 use lib.ListN.{length}
 use borrow.Author.Tests.{leb-true}
 use Rattle.sweep.specs.State.{Sweep}
-use Rattle.frames.specs.Frames.{reading}
-use Rattle.frames.specs.Frames.{refused as unread}
+use Rattle.reading.specs.Frames.{reading}
+use Rattle.reading.specs.Frames.{refused as unread}
 use Rattle.frames.specs.Writing.{refusalLine}
 use Rattle.frames.specs.Post.{WritePost}
-use Rattle.frames.proofs.Sizes.{no-newline}
+use Rattle.reading.proofs.Sizes.{no-newline}
 use Rattle.ends.specs.Ends.{LinePast}
 use Rattle.ends.proofs.Newlines.{plain, plain-last}
 use Rattle.carry.specs.declared.Step.the-variants.{Stops, Full}

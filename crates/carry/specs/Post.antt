@@ -11,10 +11,10 @@ use Rattle.rules.specs.Calls.{openAnswer}
 use Rattle.sweep.specs.declared.Processor.{Processor}
 use Rattle.sweep.specs.State.{Sweep, processorOf, Made}
 use Rattle.sweep.specs.Post.{takeVerdict, closeVerdict}
-use Rattle.frames.specs.declared.Line.{Line}
-use Rattle.frames.specs.declared.Line.the-variants.{Frame as Framed, Refused}
-use Rattle.frames.specs.declared.Frame.{Frame}
-use Rattle.frames.specs.declared.Frame.the-variants.{Open, Samples, Close}
+use Rattle.reading.specs.declared.Line.{Line}
+use Rattle.reading.specs.declared.Line.the-variants.{Frame as Framed, Refused}
+use Rattle.reading.specs.declared.Frame.{Frame}
+use Rattle.reading.specs.declared.Frame.the-variants.{Open, Samples, Close}
 use Rattle.frames.specs.Writing.{refusalLine}
 use Rattle.ends.specs.Ends.{LinePast}
 use Rattle.carry.specs.declared.Step.{Step}

@@ -1,37 +1,36 @@
 -- The lines of an input: where one ends, what it prints, and what is left.
-use Prim.Native.Nat.{ℕ, zero, suc, _+_, _-_, _*_, _≤_, _<_}
+use Prim.Native.Nat.{ℕ, suc, _+_, _-_, _≤_, _<_}
 use native.Mathlib.Omega.{arith}
 use mathlib.Core.Path.{_≡_, refl, sym, ap, ap₂, _∙_, subst}
 use mathlib.Core.Logic.{_⊎_, inl, inr}
-use mathlib.Core.Bool.{Bool, true, false, not, cond, _&&_, _||_}
+use mathlib.Core.Bool.{Bool, true, false, not, cond, _&&_}
 use mathlib.Core.List.{List, [], _∷_, _++_, append-assoc, append-nil}
 use lib.Dec.{leb, ltb, eqb}
 use lib.ListN.{length, getD, take, drop, length-append, length-drop, take-append-drop}
 use lib.Seq.{getD-take, getD-drop, length-take-le, drop-drop, take-suc, getD-append-seam, getD-at}
-use borrow.Author.Tests.{leb-true, leb-false, le-leb, ltb-true, ltb-false, eqb-true, eqb-false, eq-eqb, ne-eqb}
+use borrow.Author.Tests.{leb-true, leb-false, eqb-true, eqb-false, ne-eqb}
 use Rattle.rules.specs.Lists.{All}
 use Rattle.rules.specs.Samples.{Trace, _⧺_, sweepLimit}
 use Rattle.rules.specs.Buffers.{over-at}
 use Rattle.rules.specs.Calls.{Answer as Verdict, accepted, refused, openAnswer, takeAnswer}
-use Rattle.rules.proofs.Truth.{and-left, or-left, or-right}
+use Rattle.rules.proofs.Truth.{and-left}
 use Rattle.rules.proofs.ListLaws.{all-append}
 use Rattle.rules.proofs.Buffers.{over-at-nil, over-at-next}
 use Rattle.sweep.specs.declared.Processor.{Processor}
 use Rattle.sweep.specs.State.{Sweep, none, running, processorOf, Within, Sound, Made}
 use Rattle.sweep.specs.Post.{longer, takeVerdict, closeVerdict}
 use Rattle.sweep.proofs.Answers.{took}
-use Rattle.frames.specs.Frames.{Reading, opening, samples, closing, reading}
-use Rattle.frames.specs.Frames.{refused as unread}
+use Rattle.reading.specs.Frames.{Reading, opening, samples, closing, reading}
+use Rattle.reading.specs.Frames.{refused as unread}
 use Rattle.frames.specs.Writing.{refusalLine}
-use Rattle.frames.specs.Post.{WritePost}
-use Rattle.frames.proofs.Sizes.{Sized, reading-sized, no-newline, too-long}
+use Rattle.reading.proofs.Sizes.{Sized, reading-sized, no-newline, too-long}
 use Rattle.ends.specs.Ends.{NoNewline, LineEnd, LinePast}
 use Rattle.ends.proofs.Newlines.{Plain, plain, plain-last}
 use Rattle.carry.specs.declared.Step.{Step}
 use Rattle.carry.specs.declared.Step.the-variants.{Goes, Stops, Full}
 use Rattle.carry.specs.declared.Stepped.{Stepped}
 use Rattle.carry.specs.Outcomes.{Outcome, goes, stops, openedAs, takenAs, closedAs, carried, lineAt, printed}
-use Rattle.carry.specs.Post.{steppedBy, steppedAs, outputAs, roomy, placeOf, StepPost}
+use Rattle.carry.specs.Post.{steppedAs, outputAs, roomy, placeOf, StepPost}
 use Rattle.carry.proofs.Rest.{nine, rest-nine}
 use Rattle.lines.specs.declared.scan.Scan.the-variants.{Rest, Stopped}
 use Rattle.lines.specs.declared.scan.Scan.the-variants.{Full as NoRoom}

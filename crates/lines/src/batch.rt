@@ -9,10 +9,10 @@ ghost use Rattle.lines.specs.Batches.{beginsSamples, AddPost, GatherPost
 use carry::least;
 use ends::End;
 use ends::line_end;
-use frames::Frame;
-use frames::Line;
-use frames::read;
 use frames::reply_lines;
+use reading::Frame;
+use reading::Line;
+use reading::read;
 use sweep::Answer;
 use sweep::Processor;
 use sweep::take;

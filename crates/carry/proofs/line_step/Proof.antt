@@ -9,7 +9,7 @@ use Rattle.carry.proofs.line_step.Statement.{statement}
 use Rattle.carry.proofs.line_step.Tie as tie
 use Rattle.carry.proofs.line_step.Reads as reads
 use Rattle.carry.proofs.line_step.Lts as lts
-use Rattle.frames.proofs.read.Reads as read-reads
+use Rattle.reading.proofs.read.Reads as read-reads
 use Rattle.carry.proofs.carry_out.Reads as carry-out-reads
 use Rattle.carry.proofs.roomy.Reads as roomy-reads
 

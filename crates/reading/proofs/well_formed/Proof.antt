@@ -1,11 +1,11 @@
-use Rattle.frames.proofs.WellFormed.{well-short, well-long, well-odd, well-open, well-digits}
+use Rattle.reading.proofs.WellFormed.{well-short, well-long, well-odd, well-open, well-digits}
 use native.Mathlib.Omega.{arith}
 use borrow.Author.Needs.{needs}
-use Rattle.frames.proofs.well_formed.Statement.{statement}
-use Rattle.frames.proofs.well_formed.Tie as tie
-use Rattle.frames.proofs.well_formed.Reads as reads
-use Rattle.frames.proofs.well_formed.Lts as lts
-use Rattle.frames.proofs.characters.are_digits.Reads as are-digits-reads
+use Rattle.reading.proofs.well_formed.Statement.{statement}
+use Rattle.reading.proofs.well_formed.Tie as tie
+use Rattle.reading.proofs.well_formed.Reads as reads
+use Rattle.reading.proofs.well_formed.Lts as lts
+use Rattle.reading.proofs.characters.are_digits.Reads as are-digits-reads
 
 -- src/lib.rt:60:9
 returns : tie.Need-returns

@@ -9,8 +9,8 @@ use lib.ListN.{length, getD, take, length-append}
 use borrow.Author.Tests.{lt-ltb, le-ltb, le-leb, lt-leb, eq-eqb, ltb-true, ltb-false}
 use Rattle.rules.specs.Lists.{All}
 use Rattle.rules.specs.Samples.{Trace}
-use Rattle.frames.specs.Frames.{Reading, opening, samples, closing, refused, digit, isDigit, areDigits, bytes, digits, ended, wellFormed, flagsIn, valuesIn, frame, reading}
+use Rattle.reading.specs.Frames.{Reading, opening, samples, closing, refused, digit, isDigit, areDigits, bytes, digits, ended, wellFormed, flagsIn, valuesIn, frame, reading}
 use Rattle.frames.specs.Writing.{glyph, hexadecimal, written, openLine, pairs, samplesLine, closeLine}
 
 -- ---- one byte
 

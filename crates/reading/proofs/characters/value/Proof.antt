@@ -1,9 +1,9 @@
-use Rattle.frames.proofs.Digits.{digit-by-bits}
+use Rattle.reading.proofs.Digits.{digit-by-bits}
 use borrow.Author.Needs.{needs}
-use Rattle.frames.proofs.characters.value.Statement.{statement}
-use Rattle.frames.proofs.characters.value.Tie as tie
-use Rattle.frames.proofs.characters.value.Reads as reads
-use Rattle.frames.proofs.characters.value.Lts as lts
+use Rattle.reading.proofs.characters.value.Statement.{statement}
+use Rattle.reading.proofs.characters.value.Tie as tie
+use Rattle.reading.proofs.characters.value.Reads as reads
+use Rattle.reading.proofs.characters.value.Lts as lts
 
 -- src/samples.rt:20:14
 mul-result : tie.Need-mul-result

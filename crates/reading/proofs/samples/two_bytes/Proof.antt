@@ -1,10 +1,10 @@
-use Rattle.frames.proofs.Filling.{two-in-word}
+use Rattle.reading.proofs.Filling.{two-in-word}
 use borrow.Author.Needs.{needs}
-use Rattle.frames.proofs.samples.two_bytes.Statement.{statement}
-use Rattle.frames.proofs.samples.two_bytes.Tie as tie
-use Rattle.frames.proofs.samples.two_bytes.Reads as reads
-use Rattle.frames.proofs.samples.two_bytes.Lts as lts
-use Rattle.frames.proofs.samples.wide.Reads as wide-reads
+use Rattle.reading.proofs.samples.two_bytes.Statement.{statement}
+use Rattle.reading.proofs.samples.two_bytes.Tie as tie
+use Rattle.reading.proofs.samples.two_bytes.Reads as reads
+use Rattle.reading.proofs.samples.two_bytes.Lts as lts
+use Rattle.reading.proofs.samples.wide.Reads as wide-reads
 
 -- src/samples.rt:40:20
 shared-slice-read-wide : tie.Need-shared-slice-read-wide

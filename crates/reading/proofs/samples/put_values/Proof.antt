@@ -1,11 +1,11 @@
-use Rattle.frames.proofs.Filling.{Valued, valued-start, valued-digit, valued-next, valued-end}
+use Rattle.reading.proofs.Filling.{Valued, valued-start, valued-digit, valued-next, valued-end}
 use native.Mathlib.Omega.{arith}
 use Prim.Native.Nat.{_-_}
-use Rattle.frames.proofs.samples.put_values.Statement.{statement}
-use Rattle.frames.proofs.samples.put_values.Tie as tie
-use Rattle.frames.proofs.samples.put_values.Reads as reads
-use Rattle.frames.proofs.samples.put_values.Lts as lts
-use Rattle.frames.proofs.characters.value.Reads as value-reads
+use Rattle.reading.proofs.samples.put_values.Statement.{statement}
+use Rattle.reading.proofs.samples.put_values.Tie as tie
+use Rattle.reading.proofs.samples.put_values.Reads as reads
+use Rattle.reading.proofs.samples.put_values.Lts as lts
+use Rattle.reading.proofs.characters.value.Reads as value-reads
 
 abbrev Inv-loop : tie.InvT-loop
 Inv-loop line n digits₀ i₀ digits i = Valued line n digits₀ digits i

@@ -3,7 +3,7 @@ ghost use Prim.Native.Nat.{_+_, _*_, _≤_};
 ghost use mathlib.Core.Path.{_≡_};
 ghost use lib.ListN.{length, take, drop};
 ghost use Rattle.rules.specs.Buffers.{over};
-ghost use Rattle.frames.specs.Post.{AllDigits, FillPost, digitValues, FourDigits, TwoBytes};
+ghost use Rattle.reading.specs.Post.{AllDigits, FillPost, digitValues, FourDigits, TwoBytes};
 use super::characters::value;
 
 fn wide(x: u8) -> u32

@@ -9,13 +9,13 @@ use lib.ListN.{length, getD, take}
 use borrow.Author.Tests.{leb-true, eqb-true, lt-leb, le-leb, eq-eqb, ne-eqb}
 use Rattle.rules.specs.Samples.{Trace}
 use Rattle.rules.proofs.Truth.{and-left, and-right}
-use Rattle.frames.specs.declared.Line.{Line}
-use Rattle.frames.specs.declared.Line.the-variants.{Frame as Framed, Refused}
-use Rattle.frames.specs.declared.Frame.the-variants.{Open, Samples, Close}
-use Rattle.frames.specs.Frames.{Reading, opening, samples, closing, refused, areDigits, digits, ended, wellFormed, bytes, flagsIn, valuesIn, openingOf, samplesOf, closingOf, frame, reading}
+use Rattle.reading.specs.declared.Line.{Line}
+use Rattle.reading.specs.declared.Line.the-variants.{Frame as Framed, Refused}
+use Rattle.reading.specs.declared.Frame.the-variants.{Open, Samples, Close}
+use Rattle.reading.specs.Frames.{Reading, opening, samples, closing, refused, areDigits, digits, ended, wellFormed, bytes, flagsIn, valuesIn, openingOf, samplesOf, closingOf, frame, reading}
 use Rattle.rules.specs.Buffers.{over}
-use Rattle.frames.specs.Post.{lineOf, flagsAfter, valuesAfter, behind, AllDigits, FillPost, ReadPost}
-use Rattle.frames.proofs.Pairs.{byte, kind-first, behind-length, behind-at, flags-length}
+use Rattle.reading.specs.Post.{lineOf, flagsAfter, valuesAfter, behind, AllDigits, FillPost, ReadPost}
+use Rattle.reading.proofs.Pairs.{byte, kind-first, behind-length, behind-at, flags-length}
 
 -- what a well formed line is
 pub record Formed (l : List ℕ) : Type 0 where

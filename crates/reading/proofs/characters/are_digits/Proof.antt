@@ -1,11 +1,11 @@
-use Rattle.frames.proofs.Digits.{Seen, seen-none, seen-next, seen-all}
+use Rattle.reading.proofs.Digits.{Seen, seen-none, seen-next, seen-all}
 use native.Mathlib.Omega.{arith}
 use Prim.Native.Nat.{_-_}
-use Rattle.frames.proofs.characters.are_digits.Statement.{statement}
-use Rattle.frames.proofs.characters.are_digits.Tie as tie
-use Rattle.frames.proofs.characters.are_digits.Reads as reads
-use Rattle.frames.proofs.characters.are_digits.Lts as lts
-use Rattle.frames.proofs.characters.is_digit.Reads as is-digit-reads
+use Rattle.reading.proofs.characters.are_digits.Statement.{statement}
+use Rattle.reading.proofs.characters.are_digits.Tie as tie
+use Rattle.reading.proofs.characters.are_digits.Reads as reads
+use Rattle.reading.proofs.characters.are_digits.Lts as lts
+use Rattle.reading.proofs.characters.is_digit.Reads as is-digit-reads
 
 abbrev Inv-loop : tie.InvT-loop
 Inv-loop line n all₀ i₀ all i = Seen line n i all

@@ -1,18 +1,18 @@
 use borrow.Author.Tests.{not-true, not-false}
-use Rattle.frames.proofs.Reading.{formed, samples-digits, read-9, read-other, read-open-10, read-open, read-uneven, read-none, read-samples, read-close-10, read-close}
-use Rattle.frames.proofs.Pairs.{two-digits}
+use Rattle.reading.proofs.Reading.{formed, samples-digits, read-9, read-other, read-open-10, read-open, read-uneven, read-none, read-samples, read-close-10, read-close}
+use Rattle.reading.proofs.Pairs.{two-digits}
 use lib.ListN.{length}
 use mathlib.Core.Path.{refl, sym, _∙_}
 use native.Mathlib.Omega.{arith}
 use Prim.Native.Nat.{_-_}
 use borrow.Author.Needs.{needs}
-use Rattle.frames.proofs.read.Statement.{statement}
-use Rattle.frames.proofs.read.Tie as tie
-use Rattle.frames.proofs.read.Reads as reads
-use Rattle.frames.proofs.read.Lts as lts
-use Rattle.frames.proofs.characters.byte_at.Reads as byte-at-reads
-use Rattle.frames.proofs.samples.fill.Reads as fill-reads
-use Rattle.frames.proofs.well_formed.Reads as well-formed-reads
+use Rattle.reading.proofs.read.Statement.{statement}
+use Rattle.reading.proofs.read.Tie as tie
+use Rattle.reading.proofs.read.Reads as reads
+use Rattle.reading.proofs.read.Lts as lts
+use Rattle.reading.proofs.characters.byte_at.Reads as byte-at-reads
+use Rattle.reading.proofs.samples.fill.Reads as fill-reads
+use Rattle.reading.proofs.well_formed.Reads as well-formed-reads
 
 -- src/lib.rt:91:9
 well-formed-requires : tie.Need-well-formed-requires
