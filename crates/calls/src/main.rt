@@ -83,11 +83,15 @@ fn stop(p: Processor) -> Step {
     }
 }
 
-// Stops, with the reason on standard error.
-fn give_up(p: Processor, why: &[u8]) -> Step {
+// Why nothing more is carried out, on standard error.
+fn complain(why: &[u8]) {
     io::write_all(STDERR_FILENO, b"calls: ");
     io::write_all(STDERR_FILENO, why);
     io::write_all(STDERR_FILENO, b"\n");
+}
+
+fn give_up(p: Processor, why: &[u8]) -> Step {
+    complain(why);
     stop(p)
 }
 
@@ -113,9 +117,20 @@ fn put_shown(out: &mut [u8], shown: u8, p: Processor)
     }
 }
 
+// Whether the first bytes of an outcome, `lent` bytes of the buffer among them, could be written.
+fn is_told(out: &[u8], lent: usize) -> bool
+    requires { ⌜ (lent ≤ 2048) × (3016 ≤ length (now out)) ⌝ }
+{
+    if io::write_all(STDOUT_FILENO, &out[0..TOLD + lent]) {
+        return true;
+    }
+    complain(b"an outcome cannot be written");
+    false
+}
+
 // Writes the outcome of a call, `lent` bytes of the buffer among it.
 fn tell(
-    c: Call,
+    shown: u8,
     answer: Answer,
     totals: Totals,
     after: Processor,
@@ -126,14 +141,11 @@ fn tell(
 {
     put_answer(out, answer);
     put_totals(out, totals);
-    put_shown(out, c.shown, after);
-    if io::write_all(STDOUT_FILENO, &out[0..TOLD + lent]) {
-        return Step {
-            going: true,
-            processor: after,
-        };
+    put_shown(out, shown, after);
+    Step {
+        going: is_told(out, lent),
+        processor: after,
     }
-    give_up(after, b"an outcome cannot be written")
 }
 
 // The processor after an opening that gave `opened`.
@@ -151,9 +163,8 @@ fn carry_open(p: Processor, c: Call) -> Step {
     let mut out = [c.fill; OUTCOME];
     let o = sweep::open(c.mode, c.azimuth);
     let answer = o.answer;
-    let opened = o.processor;
-    let after = after_opening(p, answer, opened);
-    tell(c, answer, no_totals(), after, &mut out, 0)
+    let after = after_opening(p, answer, o.processor);
+    tell(c.shown, answer, no_totals(), after, &mut out, 0)
 }
 
 // A take that is lent the `lent` bytes behind what is told.
@@ -171,8 +182,7 @@ fn take_piece(p: Processor, c: Call, flags: &[u8], values: &[u8]) -> Step {
     let mut out = [c.fill; OUTCOME];
     let t = take_in(p, flags, values, &mut out, lent);
     let answer = t.answer;
-    let after = t.processor;
-    tell(c, answer, no_totals(), after, &mut out, lent)
+    tell(c.shown, answer, no_totals(), t.processor, &mut out, lent)
 }
 
 // The samples a to b of a recording are read, all of them.
@@ -220,9 +230,7 @@ fn carry_close(p: Processor, c: Call) -> Step {
     let mut out = [c.fill; OUTCOME];
     let t = close_in(p, &mut out, lent);
     let answer = t.answer;
-    let totals = t.totals;
-    let after = t.processor;
-    tell(c, answer, totals, after, &mut out, lent)
+    tell(c.shown, answer, t.totals, t.processor, &mut out, lent)
 }
 
 // ---- reading a call
@@ -247,22 +255,33 @@ fn call_of(b: [u8; 17]) -> Call {
     }
 }
 
-fn carry_out(p: Processor, c: Call) -> Step {
+// Whether a call is one that can be carried out; says why not.
+fn is_call(c: Call) -> bool {
     if 1 < c.shown {
-        return give_up(p, b"a processor is shown or not, by 1 or 0");
+        complain(b"a processor is shown or not, by 1 or 0");
+        return false;
     }
-    if c.kind == 2 {
-        return carry_take(p, c);
+    if (c.kind != 2) & ((c.flags != 0) | (c.values != 0)) {
+        complain(b"samples belong to a take");
+        return false;
     }
-    if (c.flags != 0) | (c.values != 0) {
-        return give_up(p, b"samples belong to a take");
+    if 3 < c.kind {
+        complain(b"an unknown kind of call");
+        return false;
+    }
+    true
+}
+
+fn carry_out(p: Processor, c: Call) -> Step {
+    if !is_call(c) {
+        return stop(p);
     }
     let kind = c.kind;
     match kind {
-        0 => stop(p),
         1 => carry_open(p, c),
+        2 => carry_take(p, c),
         3 => carry_close(p, c),
-        _ => give_up(p, b"an unknown kind of call"),
+        _ => stop(p),
     }
 }
 

@@ -2,6 +2,7 @@
 use records::bits_of;
 use rules::Counts;
 use rules::Estimate;
+use rules::Machine;
 use rules::Place;
 use rules::Places;
 use rules::Reply;
@@ -185,18 +186,26 @@ fn put_counts(out: &mut [u8], c: Counts)
     put_all(out, 920, &numbers);
 }
 
+fn put_machine(out: &mut [u8], m: Machine)
+    requires { ⌜ 968 ≤ length (now out) ⌝ }
+{
+    put_places(out, m.places);
+    put_counts(out, m.counts);
+}
+
+fn put_settings(out: &mut [u8], mode: u8, azimuth: u16, taken: u32)
+    requires { ⌜ 968 ≤ length (now out) ⌝ }
+{
+    let settings = [mode as u64, azimuth as u64, taken as u64];
+    put_all(out, 64, &settings);
+}
+
 pub fn put_processor(out: &mut [u8], p: Processor)
     requires { ⌜ 968 ≤ length (now out) ⌝ }
 {
-    let settings = [p.mode as u64, p.azimuth as u64, p.taken as u64];
-    let front = p.front;
+    put_settings(out, p.mode, p.azimuth, p.taken);
+    put_front(out, p.front);
     let recent = p.recent;
-    let machine = p.machine;
-    let places = machine.places;
-    let counts = machine.counts;
-    put_all(out, 64, &settings);
-    put_front(out, front);
     put_recent(out, recent);
-    put_places(out, places);
-    put_counts(out, counts);
+    put_machine(out, p.machine);
 }

@@ -1,9 +1,3 @@
--- Laws of frames: digits, pairs of them, reading, and reading what was written.
-pub mod Digits
-pub mod Pairs
+-- Laws of bytes put into a buffer, and of lines that are printed.
 pub mod Filling
-pub mod WellFormed
-pub mod Reading
-pub mod RoundTrip
 pub mod Printing
-pub mod Sizes

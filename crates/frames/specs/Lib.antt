@@ -1,4 +1,3 @@
--- Frames: what a line says, how one is written, and what reading it leaves in the buffers.
-pub mod Frames
+-- Frames as they are written, and what writing them leaves in the buffer.
 pub mod Writing
 pub mod Post

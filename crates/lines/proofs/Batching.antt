@@ -26,20 +26,24 @@ use Rattle.sweep.specs.declared.Taken.{Taken}
 use Rattle.sweep.specs.State.{Sweep, none, running, Sound, Made}
 use Rattle.sweep.specs.Post.{longer, takeVerdict, TakePost}
 use Rattle.sweep.proofs.Answers.{standard-allowed, took, join-assoc, join-nothing}
-use Rattle.frames.specs.declared.Line.{Line}
-use Rattle.frames.specs.Frames.{Reading, opening, samples, closing, reading}
-use Rattle.frames.specs.Frames.{refused as unread}
+use Rattle.reading.specs.declared.Line.{Line}
+use Rattle.reading.specs.Frames.{Reading, opening, samples, closing, reading}
+use Rattle.reading.specs.Frames.{refused as unread}
 use Rattle.frames.specs.Writing.{replyLine, replyLines, recordLines}
-use Rattle.frames.specs.Post.{lineOf, flagsAfter, valuesAfter, ReadPost, WritePost}
-use Rattle.frames.proofs.Sizes.{Sized, reading-sized}
+use Rattle.reading.specs.Post.{lineOf, flagsAfter, valuesAfter, ReadPost}
+use Rattle.frames.specs.Post.{WritePost}
+use Rattle.reading.proofs.Sizes.{Sized, reading-sized}
 use Rattle.frames.proofs.Printing.{over-at-length, Putting, putting-start, putting-next}
 use Rattle.lines.specs.declared.batch.Gathering.{Gathering}
 use Rattle.lines.specs.declared.batch.Batched.{Batched}
 use Rattle.lines.specs.declared.scan.Scan.the-variants.{Rest}
-use Rattle.lines.specs.Survey.{Outcome, goes, takenAs, freshOf, carried, lineAt, linesIn, further, surveyed}
-use Rattle.lines.specs.Post.{pieceOf, countIn, LineEnd, Scans}
+use Rattle.ends.specs.Ends.{LineEnd}
+use Rattle.carry.specs.Outcomes.{Outcome, goes, takenAs, freshOf, carried, lineAt}
+use Rattle.carry.specs.Post.{pieceOf, countIn}
+use Rattle.lines.specs.Survey.{linesIn, further, surveyed}
+use Rattle.lines.specs.Post.{Scans}
 use Rattle.lines.specs.Batches.{beginsSamples, samplesIn, AddPost, Takes, Gathered, GatherPost, batchAs, printedAs, TakeAllPost, BatchPost}
-use Rattle.lines.proofs.Carrying.{Wrote, write-inside, flags-lent, values-lent, said-most, turned-down, given-back, carried-out, went-on, replies-wrote}
+use Rattle.carry.proofs.Carrying.{Wrote, write-inside, flags-lent, values-lent, said-most, turned-down, given-back, carried-out, went-on, replies-wrote}
 use Rattle.lines.proofs.Scanning.{good-take, part, survey-first}
 
 -- ---- the first two characters

@@ -1,5 +1,4 @@
--- Laws of a survey: what a line makes of a sweep and prints, and the lines of an input.
-pub mod Carrying
+-- Laws of a survey: the lines of an input, one by one and in batches, and in any parts.
 pub mod Scanning
 pub mod Batching
 pub mod Turns

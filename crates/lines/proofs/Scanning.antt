@@ -1,152 +1,46 @@
 -- The lines of an input: where one ends, what it prints, and what is left.
-use Prim.Native.Nat.{ℕ, zero, suc, _+_, _-_, _*_, _≤_, _<_}
+use Prim.Native.Nat.{ℕ, suc, _+_, _-_, _≤_, _<_}
 use native.Mathlib.Omega.{arith}
 use mathlib.Core.Path.{_≡_, refl, sym, ap, ap₂, _∙_, subst}
 use mathlib.Core.Logic.{_⊎_, inl, inr}
-use mathlib.Core.Bool.{Bool, true, false, not, cond, _&&_, _||_}
+use mathlib.Core.Bool.{Bool, true, false, not, cond, _&&_}
 use mathlib.Core.List.{List, [], _∷_, _++_, append-assoc, append-nil}
 use lib.Dec.{leb, ltb, eqb}
 use lib.ListN.{length, getD, take, drop, length-append, length-drop, take-append-drop}
 use lib.Seq.{getD-take, getD-drop, length-take-le, drop-drop, take-suc, getD-append-seam, getD-at}
-use borrow.Author.Tests.{leb-true, leb-false, le-leb, ltb-true, ltb-false, eqb-true, eqb-false, eq-eqb, ne-eqb}
+use borrow.Author.Tests.{leb-true, leb-false, eqb-true, eqb-false, ne-eqb}
 use Rattle.rules.specs.Lists.{All}
 use Rattle.rules.specs.Samples.{Trace, _⧺_, sweepLimit}
 use Rattle.rules.specs.Buffers.{over-at}
 use Rattle.rules.specs.Calls.{Answer as Verdict, accepted, refused, openAnswer, takeAnswer}
-use Rattle.rules.proofs.Truth.{and-left, or-left, or-right}
+use Rattle.rules.proofs.Truth.{and-left}
 use Rattle.rules.proofs.ListLaws.{all-append}
 use Rattle.rules.proofs.Buffers.{over-at-nil, over-at-next}
 use Rattle.sweep.specs.declared.Processor.{Processor}
 use Rattle.sweep.specs.State.{Sweep, none, running, processorOf, Within, Sound, Made}
 use Rattle.sweep.specs.Post.{longer, takeVerdict, closeVerdict}
 use Rattle.sweep.proofs.Answers.{took}
-use Rattle.frames.specs.Frames.{Reading, opening, samples, closing, reading}
-use Rattle.frames.specs.Frames.{refused as unread}
+use Rattle.reading.specs.Frames.{Reading, opening, samples, closing, reading}
+use Rattle.reading.specs.Frames.{refused as unread}
 use Rattle.frames.specs.Writing.{refusalLine}
-use Rattle.frames.specs.Post.{WritePost}
-use Rattle.frames.proofs.Sizes.{Sized, reading-sized, no-newline, too-long}
-use Rattle.lines.specs.declared.carry.Step.{Step}
-use Rattle.lines.specs.declared.carry.Step.the-variants.{Goes, Stops, Full}
-use Rattle.lines.specs.declared.carry.Stepped.{Stepped}
-use Rattle.lines.specs.declared.ends.End.{End}
-use Rattle.lines.specs.declared.ends.End.the-variants.{At, Past}
+use Rattle.reading.proofs.Sizes.{Sized, reading-sized, no-newline, too-long}
+use Rattle.ends.specs.Ends.{NoNewline, LineEnd, LinePast}
+use Rattle.ends.proofs.Newlines.{Plain, plain, plain-last}
+use Rattle.carry.specs.declared.Step.{Step}
+use Rattle.carry.specs.declared.Step.the-variants.{Goes, Stops, Full}
+use Rattle.carry.specs.declared.Stepped.{Stepped}
+use Rattle.carry.specs.Outcomes.{Outcome, goes, stops, openedAs, takenAs, closedAs, carried, lineAt, printed}
+use Rattle.carry.specs.Post.{steppedAs, outputAs, roomy, placeOf, StepPost}
+use Rattle.carry.proofs.Rest.{nine, rest-nine}
 use Rattle.lines.specs.declared.scan.Scan.the-variants.{Rest, Stopped}
 use Rattle.lines.specs.declared.scan.Scan.the-variants.{Full as NoRoom}
 use Rattle.lines.specs.declared.scan.Scanned.{Scanned}
-use Rattle.lines.specs.Survey.{Outcome, goes, stops, openedAs, takenAs, closedAs, carried, lineAt, printed, onto, linesIn, further, surveyed}
-use Rattle.lines.specs.Post.{steppedBy, steppedAs, outputAs, roomy, placeOf, StepPost, RestPost, NoNewline, Passed, LineEnd, LinePast, EndPost, afterwards, Scans, Because, ScanPost}
+use Rattle.lines.specs.Survey.{onto, linesIn, further, surveyed}
+use Rattle.lines.specs.Post.{afterwards, Scans, Because, ScanPost}
 use Rattle.lines.specs.declared.batch.Batched.{Batched}
 use Rattle.lines.specs.Batches.{BatchPost}
-use Rattle.lines.proofs.Carrying.{Wrote, wrote, write-inside}
-
--- ---- bytes without a newline
-
-no-bytes : (input : List ℕ) (from to : ℕ) → to ≤ from → NoNewline input from to
-no-bytes input from to h = record { none = λ k a b e. omega arith }
-
-one-byte-more : (input : List ℕ) (from to to′ : ℕ) → to′ ≡ to + 1 → NoNewline input from to → (getD input to 0 ≡ 10 → ⊥) → NoNewline input from to′
-one-byte-more input from to to′ z h d = record { none = λ k a b e. go k a b e (ltb k to) refl }
-  where
-    go : (k : ℕ) → from ≤ k → k < to′ → getD input k 0 ≡ 10 → (t : Bool) → ltb k to ≡ t → ⊥
-    go k a b e true q = h .none k a (ltb-true k to q) e
-    go k a b e false q = d (ap (λ (j : ℕ). getD input j 0) {x = to} {y = k} (omega (arith, ltb-false k to q)) ∙ e)
-
-more-bytes : (input : List ℕ) (from i to : ℕ) → NoNewline input from i → NoNewline input i to → NoNewline input from to
-more-bytes input from i to h g = record { none = λ k a b e. go k a b e (ltb k i) refl }
-  where
-    go : (k : ℕ) → from ≤ k → k < to → getD input k 0 ≡ 10 → (t : Bool) → ltb k i ≡ t → ⊥
-    go k a b e true q = h .none k a (ltb-true k i q) e
-    go k a b e false q = g .none k (ltb-false k i q) b e
-
--- the bytes from `from` to before place from + k are looked at
-pub record Noticed (input : List ℕ) (from k : ℕ) (seen : Bool) : Type 0 where
-  pub most : k ≤ 32
-  pub before : seen ≡ false → NoNewline input from (from + k)
-
-module _ (input : List ℕ) (from : ℕ) where
-  pub noticed-none : Noticed input from 0 false
-  noticed-none = record { most = omega arith; before = λ z. no-bytes input from (from + 0) (omega arith) }
-
-  pub noticed-next : (k : ℕ) (seen : Bool) → k < 32 → Noticed input from k seen → Noticed input from (k + 1) (seen || eqb (getD input (from + k) 0) 10)
-  noticed-next k seen l h =
-      record {
-        most = omega arith;
-        before = λ z.
-            one-byte-more input from (from + k) (from + (k + 1)) (omega arith) (h .before (or-left seen (eqb (getD input (from + k) 0) 10) z))
-            (eqb-false (getD input (from + k) 0) 10 (or-right seen (eqb (getD input (from + k) 0) 10) z));
-      }
-
-  pub noticed-all : (k : ℕ) (seen : Bool) → 32 ≤ k → Noticed input from k seen → seen ≡ false → NoNewline input from (from + 32)
-  noticed-all k seen l h z = more-bytes input from (from + k) (from + 32) (h .before z) (no-bytes input (from + k) (from + 32) (omega arith))
-
--- k times 32 bytes are passed
-pub record Passing (input : List ℕ) (from i k : ℕ) : Type 0 where
-  pub most : k ≤ 8
-  pub place : i ≡ from + 32 * k
-  pub before : NoNewline input from i
-
-module _ (input : List ℕ) (from : ℕ) where
-  pub passing-start : Passing input from from 0
-  passing-start = record { most = omega arith; place = omega arith; before = no-bytes input from from (omega arith) }
-
-  module _ (i k : ℕ) (h : Passing input from i k) where
-    pub passing-next : k < 8 → NoNewline input i (i + 32) → Passing input from (i + 32) (k + 1)
-    passing-next l g = record { most = omega arith; place = omega (arith, h .place); before = more-bytes input from i (i + 32) (h .before) g }
-
-    pub passing-end : Passed input from i
-    passing-end = record { start = omega (arith, h .place); most = omega (arith, h .place, h .most); before = h .before }
-
--- ---- where a line ends
-
-pub record Looking (input : List ℕ) (from i left : ℕ) : Type 0 where
-  pub start : from ≤ i
-  pub sum : left + i ≡ from + 259
-  pub some : 0 < left
-  pub seen : NoNewline input from i
-
-module _ (input : List ℕ) (from : ℕ) where
-  pub looking-start : (i : ℕ) → Passed input from i → Looking input from i (259 - (i - from))
-  looking-start i h =
-      record { start = h .start; sum = omega (arith, h .start, h .most); some = omega (arith, h .most); seen = h .before }
-
-  module _ (i left : ℕ) (h : Looking input from i left) (more : i < length input) where
-    upTo : NoNewline input from (i + 1 - 1)
-    upTo = record { none = λ k a b e. h .seen .none k a (omega arith) e }
-
-    pub found-newline : getD input i 0 ≡ 10 → EndPost input from (At (i + 1))
-    found-newline e =
-        record {
-          some = omega (arith, h .start);
-          inside = omega arith;
-          before = upTo;
-          ends = inl (ap (λ (k : ℕ). getD input k 0) {x = i + 1 - 1} {y = i} (omega arith) ∙ e);
-        }
-
-    pub found-long : left - 1 ≡ 0 → EndPost input from (At (i + 1))
-    found-long e = record { some = omega (arith, h .start); inside = omega arith; before = upTo; ends = inr (omega (arith, h .sum, h .some, e)) }
-
-    pub looking-next : (getD input i 0 ≡ 10 → ⊥) → (left - 1 ≡ 0 → ⊥) → Looking input from (i + 1) (left - 1)
-    looking-next d z =
-        record {
-          start = omega (arith, h .start);
-          sum = omega (arith, h .sum, h .some);
-          some = omega (arith, z);
-          seen = one-byte-more input from i (i + 1) refl (h .seen) d;
-        }
-
-  pub looking-past : (i left : ℕ) → length input ≤ i → Looking input from i left → EndPost input from Past
-  looking-past i left l h =
-      record { short = omega (arith, h .sum, h .some); before = record { none = λ k a b e. h .seen .none k a (omega arith) e } }
 
 -- ---- the lines of bytes
-
--- no newline among them
-abbrev Plain : List ℕ → Type 0
-Plain l = All (λ c. c ≡ 10 → ⊥) l
-
-plain : (l : List ℕ) → ((k : ℕ) → k < length l → getD l k 0 ≡ 10 → ⊥) → Plain l
-plain [] h = tt
-plain (c ∷ l) h = (h 0 (omega arith), plain l (λ k s. h (suc k) (omega arith)))
 
 -- the bytes from one place to another
 abbrev pub part : List ℕ → ℕ → ℕ → List ℕ
@@ -195,16 +89,6 @@ lines-begin (c ∷ d ∷ l) Y h s =
     record { more = b .more; others = b .others; is = rw (ne-eqb c 10 (h .0)) (ap (onto c) (b .is)) }
 
 -- ---- what the first line prints, and then the others
-
-plain-last : (l : List ℕ) → Plain l → 0 < length l → getD l (length l - 1) 0 ≡ 10 → ⊥
-plain-last [] h s e = omega arith
-plain-last (c ∷ []) h s e = h .0 e
-plain-last (c ∷ d ∷ l) h s e =
-    plain-last (d ∷ l) (h .1) (omega arith) (ap (λ (k : ℕ). getD (c ∷ d ∷ l) k 0) {x = suc (length (d ∷ l) - 1)} {y = length (c ∷ d ∷ l) - 1} (omega arith) ∙ e)
-
-nine : (σ : Sweep) (l : List ℕ) → reading l ≡ unread 9 → lineAt σ l ≡ stops 9
-unfolding lineAt
-nine σ l e = ap (carried σ) e
 
 -- 259 bytes without a newline are refused, whatever comes behind them
 long-nine : (l m : List ℕ) → Plain l → length l ≡ 259 → reading (l ++ m) ≡ unread 9
@@ -521,14 +405,6 @@ module _ (p : Processor) (input : List ℕ) (from at : ℕ) (b₀ : List ℕ) wh
                 };
           }
 
--- ---- where a line ends, taken apart
-
-pub end-at : (input : List ℕ) (from : ℕ) (r : End) (to : ℕ) → r ≡ At to → EndPost input from r → LineEnd input from to
-end-at input from r to e h = subst (EndPost input from) e h
-
-pub end-past : (input : List ℕ) (from : ℕ) (r : End) → r ≡ Past → EndPost input from r → LinePast input from
-end-past input from r e h = subst (EndPost input from) e h
-
 -- ---- the end of the input
 
 lines-rest : (l : List ℕ) → Plain l → 0 < length l → linesIn l ≡ l ∷ []
@@ -541,29 +417,5 @@ lines-rest (c ∷ d ∷ l) h s = rw (ne-eqb c 10 (h .0)) (ap (onto c) (lines-res
 pub survey-rest : (l : List ℕ) (σ : Sweep) → LinePast l 0 → 0 < length l → (surveyed (linesIn l) σ ≡ printed (lineAt σ l)) × (lineAt σ l ≡ stops 9)
 unfolding surveyed
 survey-rest l σ h s =
-    let p : Plain l = plain l (λ k q e. h .before .none k (omega arith) q e) in
-    let n = nine σ l (no-newline l (plain-last l p s)) in
-    (ap (λ (ls : List (List ℕ)). surveyed ls σ) (lines-rest l p s) ∙ ap (λ (o : Outcome). further o (surveyed [])) n ∙ ap printed (sym n), n)
-
--- so that nothing of them, and nothing of the sweep, has to be looked at
-module _ (at : ℕ) (b : List ℕ) where
-  pub rest-full : roomy at b ≡ false → RestPost at b Full b
-  rest-full z =
-      record {
-        inside = λ h. h;
-        result = λ σ p l h s. ap (λ (t : Bool). steppedAs t (lineAt σ l) p at) (sym z);
-        output = λ σ l h s. ap (λ (t : Bool). outputAs t (lineAt σ l) at b) (sym z);
-      }
-
-  pub rest-stops : roomy at b ≡ true → (e : ℕ) (b′ : List ℕ) → WritePost (refusalLine 9) at b e b′ → RestPost at b (Stops 9 e) b′
-  rest-stops z e b′ w =
-      record {
-        inside = λ h. write-inside (refusalLine 9) at b e b′ h w;
-        result = λ σ p l h s.
-            ap (λ (x : ℕ). record { step = Stops 9 x; processor = p }) (done .place)
-            ∙ ap₂ (λ (t : Bool) (o : Outcome). steppedAs t o p at) (sym z) (sym (survey-rest l σ h s .1));
-        output = λ σ l h s. done .buffer ∙ ap₂ (λ (t : Bool) (o : Outcome). outputAs t o at b) (sym z) (sym (survey-rest l σ h s .1));
-      }
-    where
-      done : Wrote (refusalLine 9) at b e b′
-      done = wrote (refusalLine 9) at b e b′ (omega (arith, leb-true (at + 339) (length b) z)) w
+    let n = rest-nine l σ h s in
+    (ap (λ (ls : List (List ℕ)). surveyed ls σ) (lines-rest l (plain l (λ k q e. h .before .none k (omega arith) q e)) s) ∙ ap (λ (o : Outcome). further o (surveyed [])) n ∙ ap printed (sym n), n)

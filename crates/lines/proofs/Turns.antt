@@ -12,7 +12,8 @@ use Rattle.lines.specs.declared.scan.Scan.{Scan}
 use Rattle.lines.specs.declared.scan.Scan.the-variants.{Rest, Stopped}
 use Rattle.lines.specs.declared.scan.Scan.the-variants.{Full as NoRoom}
 use Rattle.lines.specs.declared.scan.Scanned.{Scanned}
-use Rattle.lines.specs.Survey.{Outcome, lineAt, printed, linesIn, further, surveyed, survey}
+use Rattle.carry.specs.Outcomes.{Outcome, lineAt, printed}
+use Rattle.lines.specs.Survey.{linesIn, further, surveyed, survey}
 use Rattle.lines.specs.Post.{afterwards, Scans, ScanPost}
 use Rattle.lines.specs.Whole.{Turn, turn, Then, Chain, allRead, allPrinted, lastScan, lastProcessor, lastHeld, Whole, AnyCutting}
 

@@ -13,14 +13,16 @@ use Rattle.rules.specs.Calls.{Answer as Verdict, accepted, refused}
 use Rattle.sweep.specs.declared.Processor.{Processor}
 use Rattle.sweep.specs.State.{Sweep, isOpen, takenBy, processorOf, Sound, Made}
 use Rattle.sweep.specs.Post.{longer, takeVerdict}
-use Rattle.frames.specs.Frames.{Reading, opening, samples, closing, reading}
-use Rattle.frames.specs.Frames.{refused as unread}
+use Rattle.reading.specs.Frames.{Reading, opening, samples, closing, reading}
+use Rattle.reading.specs.Frames.{refused as unread}
 use Rattle.frames.specs.Writing.{replyLines}
 use Rattle.lines.specs.declared.batch.Gathering.{Gathering}
 use Rattle.lines.specs.declared.batch.Batched.{Batched}
 use Rattle.lines.specs.declared.scan.Scan.the-variants.{Rest}
-use Rattle.lines.specs.Survey.{freshOf, linesIn, surveyed}
-use Rattle.lines.specs.Post.{pieceOf, Scans}
+use Rattle.carry.specs.Outcomes.{freshOf}
+use Rattle.carry.specs.Post.{pieceOf}
+use Rattle.lines.specs.Survey.{linesIn, surveyed}
+use Rattle.lines.specs.Post.{Scans}
 
 -- ---- the samples of lines
 

@@ -1,10 +1,10 @@
 // The lines of an input, one after the other.
 ghost use Rattle.lines.specs.Post.{ScanPost};
 use super::batch::batch;
-use super::carry::Step;
-use super::carry::line_step;
-use super::ends::End;
-use super::ends::line_end;
+use carry::Step;
+use carry::line_step;
+use ends::End;
+use ends::line_end;
 use sweep::Processor;
 
 // What a scan came to: the rest of the input is the start of a line; the output has no more room; or a refusal has stopped the survey.

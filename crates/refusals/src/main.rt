@@ -7,6 +7,7 @@ use rules::Estimate;
 use rules::Machine;
 use rules::Marks;
 use rules::Place;
+use rules::Places;
 use rules::Reference;
 use rules::Reply;
 use rules::Slot;
@@ -107,24 +108,15 @@ fn same_counts(a: Counts, b: Counts) -> bool {
         & (a.phantoms == b.phantoms)
 }
 
+fn same_places(a: Places, b: Places) -> bool {
+    same_place(a.p0, b.p0)
+        & same_place(a.p1, b.p1)
+        & same_place(a.p2, b.p2)
+        & same_place(a.p3, b.p3)
+}
+
 fn same_machine(a: Machine, b: Machine) -> bool {
-    let p = a.places;
-    let q = b.places;
-    let p0 = p.p0;
-    let p1 = p.p1;
-    let p2 = p.p2;
-    let p3 = p.p3;
-    let q0 = q.p0;
-    let q1 = q.p1;
-    let q2 = q.p2;
-    let q3 = q.p3;
-    let c = a.counts;
-    let d = b.counts;
-    same_place(p0, q0)
-        & same_place(p1, q1)
-        & same_place(p2, q2)
-        & same_place(p3, q3)
-        & same_counts(c, d)
+    same_places(a.places, b.places) & same_counts(a.counts, b.counts)
 }
 
 fn same_values(a: [u8; 256], b: [u8; 256]) -> bool {
@@ -132,14 +124,10 @@ fn same_values(a: [u8; 256], b: [u8; 256]) -> bool {
 }
 
 fn same_processor(a: Processor, b: Processor) -> bool {
-    let f = a.front;
-    let g = b.front;
     let r = a.recent;
     let s = b.recent;
-    let m = a.machine;
-    let n = b.machine;
     let settings = (a.mode == b.mode) & (a.azimuth == b.azimuth) & (a.taken == b.taken);
-    settings & same_front(f, g) & same_values(r, s) & same_machine(m, n)
+    settings & same_front(a.front, b.front) & same_values(r, s) & same_machine(a.machine, b.machine)
 }
 
 // ---- how a sweep ends
@@ -160,8 +148,7 @@ fn ending(p: Processor) -> Ended {
     let mut handed = [FILL; 72];
     let mut left = [FILL; 144];
     let t = sweep::take(p, &flags, &values, &mut handed);
-    let next = t.processor;
-    let c = sweep::close(next, &mut left);
+    let c = sweep::close(t.processor, &mut left);
     let totals = c.totals;
     Ended {
         handed,
@@ -179,16 +166,16 @@ fn same_totals(a: Totals, b: Totals) -> bool {
         & (a.phantoms == b.phantoms)
 }
 
-fn same_ending(p: Processor, q: Processor) -> bool {
-    let a = ending(p);
-    let b = ending(q);
+fn same_ended(a: Ended, b: Ended) -> bool {
     let a_handed = a.handed;
     let b_handed = b.handed;
     let a_left = a.left;
     let b_left = b.left;
-    let a_totals = a.totals;
-    let b_totals = b.totals;
-    same(&a_handed, &b_handed) & same(&a_left, &b_left) & same_totals(a_totals, b_totals)
+    same(&a_handed, &b_handed) & same(&a_left, &b_left) & same_totals(a.totals, b.totals)
+}
+
+fn same_ending(p: Processor, q: Processor) -> bool {
+    same_ended(ending(p), ending(q))
 }
 
 // ---- printing
@@ -221,30 +208,40 @@ fn show_accepted(count: usize, out: &[u8]) {
     show_kept(b", rest of the buffer", kept(out, count % 4096 * 18));
 }
 
-fn show_refused(number: u8, before: Processor, after: Processor, out: &[u8]) {
+// A call that was refused: whether the processor, and how the sweep ends, are the same.
+fn show_refused(number: u8, processor: bool, ending: bool, out: &[u8]) {
     io::write_all(STDOUT_FILENO, b": refused ");
     io::print_decimal(STDOUT_FILENO, number as u64);
     show_kept(b", buffer", kept(out, 0));
-    show_kept(b", processor", same_processor(before, after));
-    show_kept(b", end of the sweep", same_ending(before, after));
+    show_kept(b", processor", processor);
+    show_kept(b", end of the sweep", ending);
 }
 
-fn show(answer: Answer, before: Processor, after: Processor, out: &[u8]) {
+fn show_answer(answer: Answer, processor: bool, ending: bool, out: &[u8]) {
     match answer {
         Answer::Accepted(count) => show_accepted(count, out),
-        Answer::Refused(number) => show_refused(number, before, after, out),
+        Answer::Refused(number) => show_refused(number, processor, ending, out),
     }
     io::write_all(STDOUT_FILENO, b"\n");
 }
 
+fn show(answer: Answer, before: Processor, after: Processor, out: &[u8]) {
+    show_answer(
+        answer,
+        same_processor(before, after),
+        same_ending(before, after),
+        out,
+    );
+}
+
 // ---- trying a call
 
+fn is_idle(p: Processor) -> bool {
+    same_processor(sweep::idle(), p)
+}
+
 // A refused opening gives the idle processor back.
-fn try_open(name: &[u8], mode: u8, azimuth: u16) {
-    io::write_all(STDOUT_FILENO, name);
-    let o = sweep::open(mode, azimuth);
-    let answer = o.answer;
-    let after = o.processor;
+fn show_opening(answer: Answer, idle: bool) {
     match answer {
         Answer::Accepted(_) => {
             io::write_all(STDOUT_FILENO, b": accepted\n");
@@ -252,11 +249,17 @@ fn try_open(name: &[u8], mode: u8, azimuth: u16) {
         Answer::Refused(number) => {
             io::write_all(STDOUT_FILENO, b": refused ");
             io::print_decimal(STDOUT_FILENO, number as u64);
-            let before = sweep::idle();
-            show_kept(b", idle processor", same_processor(before, after));
+            show_kept(b", idle processor", idle);
             io::write_all(STDOUT_FILENO, b"\n");
         }
     }
+}
+
+fn try_open(name: &[u8], mode: u8, azimuth: u16) {
+    io::write_all(STDOUT_FILENO, name);
+    let o = sweep::open(mode, azimuth);
+    let answer = o.answer;
+    show_opening(answer, is_idle(o.processor));
 }
 
 // A take that is lent the first `room` bytes of a buffer.
@@ -296,8 +299,7 @@ fn try_take(
         room,
     );
     let answer = t.answer;
-    let after = t.processor;
-    show(answer, p, after, &out);
+    show(answer, p, t.processor, &out);
 }
 
 fn try_close(name: &[u8], p: Processor, room: usize)
@@ -307,8 +309,7 @@ fn try_close(name: &[u8], p: Processor, room: usize)
     io::write_all(STDOUT_FILENO, name);
     let c = close_in(p, &mut out, room);
     let answer = c.answer;
-    let after = c.processor;
-    show(answer, p, after, &out);
+    show(answer, p, c.processor, &out);
 }
 
 // ---- the recording and its sweeps
@@ -338,8 +339,7 @@ fn further(p: Processor, flags: &[u8], values: &[u8], a: usize, b: usize) -> Pro
 {
     let mut out = [0u8; 1440];
     let t = sweep::take(p, &flags[a..b], &values[a..b], &mut out);
-    let next = t.processor;
-    next
+    t.processor
 }
 
 // A sweep of 200 ticks, in which four replies stand open.
@@ -347,8 +347,7 @@ fn begun(flags: &[u8], values: &[u8]) -> Processor
     requires { ⌜ (5000 ≤ length (now flags)) × (5000 ≤ length (now values)) ⌝ }
 {
     let o = sweep::open(1, 5);
-    let p = o.processor;
-    further(p, flags, values, 600, 800)
+    further(o.processor, flags, values, 600, 800)
 }
 
 // A sweep of 32,768 ticks, with replies that the close still has to hand out.

@@ -202,8 +202,13 @@ fn take_part(p: Processor, flags: &[u8], values: &[u8], a: usize, b: usize) -> P
     let t = sweep::take(p, &flags[a..b], &values[a..b], &mut out);
     let answer = t.answer;
     show(answer, &out);
-    let next = t.processor;
-    next
+    t.processor
+}
+
+// The processor after a take of which nothing is printed.
+fn take_unseen(p: Processor, flags: &[u8], values: &[u8], out: &mut [u8]) -> Processor {
+    let t = sweep::take(p, flags, values, out);
+    t.processor
 }
 
 // An empty piece; then the samples a to b with too small a buffer, and with no values. None of it changes what is printed.
@@ -213,13 +218,9 @@ fn disturb(p: Processor, flags: &[u8], values: &[u8], a: usize, b: usize) -> Pro
     let mut room = [0u8; 144];
     let mut small = [0u8; 71];
     let mut spare = [0u8; 144];
-    let empty = sweep::take(p, &flags[a..a], &values[b..b], &mut room);
-    let p1 = empty.processor;
-    let cramped = sweep::take(p1, &flags[a..b], &values[a..b], &mut small);
-    let p2 = cramped.processor;
-    let unequal = sweep::take(p2, &flags[a..b], &values[b..b], &mut spare);
-    let p3 = unequal.processor;
-    p3
+    let empty = take_unseen(p, &flags[a..a], &values[b..b], &mut room);
+    let cramped = take_unseen(empty, &flags[a..b], &values[a..b], &mut small);
+    take_unseen(cramped, &flags[a..b], &values[b..b], &mut spare)
 }
 
 fn close(p: Processor) {

@@ -1,13 +1,13 @@
 // The survey program: frames from standard input, replies and totals to standard output, up to the end of input or the first refusal.
 // What is printed for which input is proved in the crate `lines`; here bytes are only read and written. Standard error gets one line: which
 // refusal stopped the survey and after how many bytes of input, or what could not be read or written.
+use carry::Step;
+use carry::rest_step;
 use libc::EINTR;
 use libc::STDERR_FILENO;
 use libc::STDIN_FILENO;
 use libc::STDOUT_FILENO;
 use lines::Scan;
-use lines::Step;
-use lines::rest_step;
 use lines::scan_lines;
 use sweep::Processor;
 use sweep::idle;

@@ -1,7 +1,7 @@
 use mathlib.Core.Path.{_≡_, refl}
 use lib.ListN.{length}
 use Prim.Native.Nat.{_≤_}
-use Rattle.lines.proofs.Carrying.{part-length}
+use Rattle.carry.proofs.Carrying.{part-length}
 use borrow.Author.Needs.{needs}
 use native.Mathlib.Omega.{arith}
 use Rattle.survey.proofs.carried.Statement.{statement}

@@ -1,14 +1,14 @@
-use Rattle.lines.specs.Post.{placeOf}
-use Rattle.lines.specs.declared.carry.Step.{Step}
+use Rattle.carry.specs.Post.{placeOf}
+use Rattle.carry.specs.declared.Step.{Step}
 use mathlib.Core.Path.{ap}
-use Rattle.lines.proofs.Carrying.{part-length}
+use Rattle.carry.proofs.Carrying.{part-length}
 use native.Mathlib.Omega.{arith}
 use borrow.Author.Needs.{needs}
 use Rattle.survey.proofs.last.Statement.{statement}
 use Rattle.survey.proofs.last.Tie as tie
 use Rattle.survey.proofs.last.Reads as reads
 use Rattle.survey.proofs.last.Lts as lts
-use Rattle.lines.proofs.rest_step.Reads as rest-step-reads
+use Rattle.carry.proofs.rest_step.Reads as rest-step-reads
 use Rattle.survey.proofs.more.Reads as more-reads
 use Rattle.survey.proofs.print.Reads as print-reads
 use Rattle.survey.proofs.report.Reads as report-reads

@@ -1,4 +1,4 @@
-use Rattle.lines.proofs.Carrying.{part-length}
+use Rattle.carry.proofs.Carrying.{part-length}
 use native.Mathlib.Omega.{arith}
 use borrow.Author.Needs.{needs}
 use Rattle.survey.proofs.pass.Statement.{statement}

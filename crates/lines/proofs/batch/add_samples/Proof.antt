@@ -1,5 +1,5 @@
 use Rattle.lines.proofs.Batching.{add-post}
-use Rattle.lines.proofs.Carrying.{flags-lent, values-lent}
+use Rattle.carry.proofs.Carrying.{flags-lent, values-lent}
 use native.Mathlib.Omega.{arith}
 use mathlib.Core.Path.{refl}
 use borrow.Author.Needs.{needs}
@@ -7,7 +7,7 @@ use Rattle.lines.proofs.batch.add_samples.Statement.{statement}
 use Rattle.lines.proofs.batch.add_samples.Tie as tie
 use Rattle.lines.proofs.batch.add_samples.Reads as reads
 use Rattle.lines.proofs.batch.add_samples.Lts as lts
-use Rattle.frames.proofs.read.Reads as read-reads
+use Rattle.reading.proofs.read.Reads as read-reads
 use Rattle.lines.proofs.batch.append.Reads as append-reads
 use Rattle.lines.proofs.batch.count_in.Reads as count-in-reads
 

@@ -1,5 +1,5 @@
 use borrow.Author.Needs.{needs}
-use Rattle.lines.proofs.Carrying.{part-length}
+use Rattle.carry.proofs.Carrying.{part-length}
 use native.Mathlib.Omega.{arith}
 use Rattle.lines.proofs.Batching.{part-short, batch-nothing, batch-post}
 use borrow.Author.Tests.{not-false, leb-true}

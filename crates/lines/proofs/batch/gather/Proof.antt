@@ -1,5 +1,5 @@
 use Rattle.lines.proofs.Batching.{SoFar, so-far-start, so-far-end, so-far-few, so-far-same, so-far-next}
-use Rattle.lines.proofs.Scanning.{end-at}
+use Rattle.ends.proofs.Newlines.{end-at}
 use borrow.Author.Needs.{needs}
 use native.Mathlib.Omega.{arith}
 use mathlib.Core.Path.{refl}
@@ -9,7 +9,7 @@ use Rattle.lines.proofs.batch.gather.Tie as tie
 use Rattle.lines.proofs.batch.gather.Reads as reads
 use Rattle.lines.proofs.batch.gather.Lts as lts
 use Rattle.lines.proofs.batch.add_samples.Reads as add-samples-reads
-use Rattle.lines.proofs.ends.line_end.Reads as line-end-reads
+use Rattle.ends.proofs.line_end.Reads as line-end-reads
 
 abbrev Inv-loop : tie.InvT-loop
 Inv-loop input from flags₀ values₀ i₀ n₀ flags values i n = SoFar input from flags₀ values₀ flags values i n

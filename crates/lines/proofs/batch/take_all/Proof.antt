@@ -1,16 +1,16 @@
-use Rattle.lines.specs.Post.{pieceOf}
+use Rattle.carry.specs.Post.{pieceOf}
 use native.Mathlib.Omega.{arith}
 use mathlib.Core.Path.{refl, ap}
 use Prim.Native.Nat.{ℕ, _*_}
 use Rattle.lines.proofs.Batching.{all-refused, all-accepted}
-use Rattle.lines.proofs.Carrying.{part-length}
+use Rattle.carry.proofs.Carrying.{part-length}
 use borrow.Author.Needs.{needs}
 use Rattle.lines.proofs.batch.take_all.Statement.{statement}
 use Rattle.lines.proofs.batch.take_all.Tie as tie
 use Rattle.lines.proofs.batch.take_all.Reads as reads
 use Rattle.lines.proofs.batch.take_all.Lts as lts
 use Rattle.frames.proofs.reply_lines.Reads as reply-lines-reads
-use Rattle.lines.proofs.carry.least.Reads as least-reads
+use Rattle.carry.proofs.least.Reads as least-reads
 use Rattle.sweep.proofs.take.Reads as take-reads
 
 -- src/batch.rt:108:36

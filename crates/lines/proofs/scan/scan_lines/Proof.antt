@@ -1,4 +1,5 @@
-use Rattle.lines.proofs.Scanning.{Scanning, scanning-start, scanning-batch, scanned-rest, scanning-next, scanned-stop, scanned-full, end-at, end-past}
+use Rattle.lines.proofs.Scanning.{Scanning, scanning-start, scanning-batch, scanned-rest, scanning-next, scanned-stop, scanned-full}
+use Rattle.ends.proofs.Newlines.{end-at, end-past}
 use lib.ListN.{length}
 use Prim.Native.Nat.{_-_}
 use native.Mathlib.Omega.{arith}
@@ -8,8 +9,8 @@ use Rattle.lines.proofs.scan.scan_lines.Tie as tie
 use Rattle.lines.proofs.scan.scan_lines.Reads as reads
 use Rattle.lines.proofs.scan.scan_lines.Lts as lts
 use Rattle.lines.proofs.batch.batch.Reads as batch-reads
-use Rattle.lines.proofs.carry.line_step.Reads as line-step-reads
-use Rattle.lines.proofs.ends.line_end.Reads as line-end-reads
+use Rattle.carry.proofs.line_step.Reads as line-step-reads
+use Rattle.ends.proofs.line_end.Reads as line-end-reads
 
 abbrev Inv-loop : tie.InvT-loop
 Inv-loop input from out₀ at q₀ i₀ place₀ out q i place = Scanning q₀ input from at out₀ q i place out

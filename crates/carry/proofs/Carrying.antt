@@ -1,0 +1,450 @@
+-- Each kind of line: what the operation answers, and what is printed of it.
+use Prim.Native.Nat.{ℕ, zero, suc, _+_, _-_, _*_, _/_, _≤_, _<_, min}
+use native.Mathlib.Omega.{arith}
+use native.Mathlib.Nat.{add-zero}
+use mathlib.Core.Path.{_≡_, refl, sym, ap, ap₂, _∙_, subst}
+use mathlib.Core.Bool.{Bool, true, false, cond, true≢false}
+use mathlib.Core.List.{List, [], _∷_, _++_, append-nil}
+use lib.Dec.{leb}
+use lib.ListN.{length, take, drop, length-append, length-drop}
+use lib.Seq.{length-take-le, take-append-seam}
+use borrow.Author.Tests.{leb-true, leb-false, le-leb, lt-leb}
+use Rattle.rules.specs.declared.Reply.{Reply}
+use Rattle.rules.specs.declared.Totals.{Totals}
+use Rattle.rules.specs.Settings.{standard}
+use Rattle.rules.specs.Samples.{Trace}
+use Rattle.rules.specs.Buffers.{over, over-at}
+use Rattle.rules.specs.Records.{recordOf, records}
+use Rattle.rules.specs.Calls.{Answer as Verdict, accepted, refused, openAnswer, fresh, rest}
+use Rattle.rules.proofs.Buffers.{over-at-nil, over-at-next}
+use Rattle.rules.proofs.Joining.{records-length}
+use Rattle.rules.proofs.HandingOut.{fresh-most, rest-most}
+use Rattle.sweep.specs.declared.Answer.{Answer}
+use Rattle.sweep.specs.declared.Answer.the-variants.{Accepted, Refused}
+use Rattle.sweep.specs.declared.Processor.{Processor}
+use Rattle.sweep.specs.declared.Opened.{Opened}
+use Rattle.sweep.specs.declared.Taken.{Taken}
+use Rattle.sweep.specs.declared.Closed.{Closed}
+use Rattle.sweep.specs.State.{Sweep, none, running, processorOf, runningProcessor, idleProcessor, Made}
+use Rattle.sweep.specs.Post.{openAs, openOf, longer, handedOut, countOf, takeVerdict, takeAs, takeBufferAs, TakePost, closeVerdict, leftOver, leftCount, totalsOf, closeAs, closeBufferAs, ClosePost}
+use Rattle.sweep.proofs.Answers.{standard-allowed, first-records}
+use Rattle.reading.specs.declared.Line.{Line}
+use Rattle.reading.specs.declared.Line.the-variants.{Frame as Framed, Refused as Unread}
+use Rattle.reading.specs.declared.Frame.{Frame}
+use Rattle.reading.specs.declared.Frame.the-variants.{Samples}
+use Rattle.frames.specs.Writing.{replyLines, recordLines, totalsLine, refusalLine}
+use Rattle.reading.specs.Frames.{Reading, opening, samples, closing, reading}
+use Rattle.reading.specs.Frames.{refused as unread}
+use Rattle.reading.specs.Post.{lineOf, flagsAfter, valuesAfter, ReadPost}
+use Rattle.frames.specs.Post.{placeBehind, bufferWith, WritePost}
+use Rattle.reading.proofs.Sizes.{Sized, reading-sized}
+use Rattle.frames.proofs.Printing.{over-at-length, lines-length, reply-lines, totals-length}
+use Rattle.carry.specs.declared.Step.{Step}
+use Rattle.carry.specs.declared.Step.the-variants.{Goes, Stops, Full}
+use Rattle.carry.specs.declared.Stepped.{Stepped}
+use Rattle.carry.specs.Outcomes.{Outcome, goes, stops, openedAs, freshOf, takenAs, restOf, closedAs, carried, lineAt, printed}
+use Rattle.carry.specs.Post.{steppedBy, roomy, steppedAs, outputAs, placeOf, StepPost, CarryPost, pieceOf, frameAt, saidAt, numberOf, countIn}
+
+-- ---- answers taken apart
+
+isRefused : Answer → Bool
+isRefused (Accepted n) = false
+isRefused (Refused k) = true
+
+numberIn : Answer → ℕ
+numberIn (Accepted n) = 0
+numberIn (Refused k) = k
+
+countOfAnswer : Answer → ℕ
+countOfAnswer (Accepted n) = n
+countOfAnswer (Refused k) = 0
+
+-- the verdict of an answer
+answered : Verdict → ℕ → Answer
+answered accepted n = Accepted n
+answered (refused k) n = Refused k
+
+refused-is : (v : Verdict) (n : ℕ) (x : Answer) (k : ℕ) → x ≡ answered v n → x ≡ Refused k → v ≡ refused k
+unfolding answered isRefused numberIn
+refused-is accepted n x k e r = absurd (true≢false (ap isRefused (sym r ∙ e)))
+refused-is (refused j) n x k e r = ap refused (ap numberIn (sym e ∙ r))
+
+record Accepts (v : Verdict) (n m : ℕ) : Type 0 where
+  verdict : v ≡ accepted
+  count : m ≡ n
+
+accepted-is : (v : Verdict) (n : ℕ) (x : Answer) (m : ℕ) → x ≡ answered v n → x ≡ Accepted m → Accepts v n m
+unfolding answered isRefused countOfAnswer
+accepted-is accepted n x m e r = record { verdict = refl; count = ap countOfAnswer (sym r ∙ e) }
+accepted-is (refused j) n x m e r = absurd (true≢false (ap isRefused (sym e ∙ r)))
+
+-- ---- lines written where there is room
+
+pub record Wrote (l : List ℕ) (at : ℕ) (b : List ℕ) (e : ℕ) (b′ : List ℕ) : Type 0 where
+  pub place : e ≡ at + length l
+  pub buffer : b′ ≡ over-at l at b
+
+pub wrote : (l : List ℕ) (at : ℕ) (b : List ℕ) (e : ℕ) (b′ : List ℕ) → at + length l ≤ length b → WritePost l at b e b′ → Wrote l at b e b′
+wrote l at b e b′ h w =
+    let t = le-leb (at + length l) (length b) h in
+    record { place = w .result ∙ ap (λ (x : Bool). placeBehind x l at) t; buffer = w .buffer ∙ ap (λ (x : Bool). bufferWith x l at b) t }
+
+-- in any case not past the end
+pub write-inside : (l : List ℕ) (at : ℕ) (b : List ℕ) (e : ℕ) (b′ : List ℕ) → at ≤ length b → WritePost l at b e b′ → e ≤ length b
+write-inside l at b e b′ h w = go (leb (at + length l) (length b)) refl
+  where
+    go : (t : Bool) → leb (at + length l) (length b) ≡ t → e ≤ length b
+    go true z = omega (arith, w .result ∙ ap (λ (x : Bool). placeBehind x l at) z, leb-true (at + length l) (length b) z)
+    go false z = omega (arith, w .result ∙ ap (λ (x : Bool). placeBehind x l at) z)
+
+write-size : (l : List ℕ) (at : ℕ) (b : List ℕ) (e : ℕ) (b′ : List ℕ) → WritePost l at b e b′ → length b′ ≡ length b
+write-size l at b e b′ w = go (leb (at + length l) (length b)) refl
+  where
+    go : (t : Bool) → leb (at + length l) (length b) ≡ t → length b′ ≡ length b
+    go true z = ap length (w .buffer ∙ ap (λ (x : Bool). bufferWith x l at b) z) ∙ over-at-length l at b (leb-true (at + length l) (length b) z)
+    go false z = ap length (w .buffer ∙ ap (λ (x : Bool). bufferWith x l at b) z)
+
+-- ---- the lines of the records in a lent buffer
+
+lines-replies : (F : List Reply) → recordLines (length (records F) / 18) (records F) ≡ replyLines F
+lines-replies F =
+    ap₂ recordLines {x = length (records F) / 18} {y = length F} (omega (arith, records-length F)) (sym (append-nil (records F))) ∙ reply-lines F []
+
+replies-length : (F : List Reply) → length (replyLines F) ≡ 39 * length F
+replies-length F = ap length (sym (lines-replies F)) ∙ lines-length (length (records F) / 18) (records F) (omega arith) ∙ omega (arith, records-length F)
+
+-- the first records of a lent buffer h, as many as there are, are written as lines
+module _ (F : List Reply) (h h₀ : List ℕ) (n most size : ℕ) (is : h ≡ over (records F) h₀) (count : n ≡ length F) (few : length F ≤ most) (cut : size ≡ 18 * min n most) where
+  first : take size h ≡ records F
+  first = ap₂ take {x = size} {y = 18 * length F} (omega (arith, cut)) is ∙ first-records F h₀
+
+  records-wrote : (at : ℕ) (b : List ℕ) (e : ℕ) (b′ : List ℕ) → at + 39 * most ≤ length b → WritePost (recordLines (length (take size h) / 18) (take size h)) at b e b′
+      → Wrote (replyLines F) at b e b′
+  records-wrote at b e b′ room w =
+      wrote (replyLines F) at b e b′ (omega (arith, replies-length F))
+      (subst (λ (l : List ℕ). WritePost l at b e b′) (ap (λ (l : List ℕ). recordLines (length l / 18) l) first ∙ lines-replies F) w)
+
+-- ---- what is carried out, by another name
+
+module _ (p : Processor) (at : ℕ) (b : List ℕ) where
+  pub carry-as : (o o′ : Sweep → Outcome) (r : Stepped) (b′ : List ℕ) → ((σ : Sweep) → Made σ p → o σ ≡ o′ σ) → CarryPost o′ p at b r b′ → CarryPost o p at b r b′
+  carry-as o o′ r b′ e c =
+      record {
+        inside = c .inside;
+        result = λ σ m. c .result σ m ∙ ap (λ (x : Outcome). steppedBy x p at) (sym (e σ m));
+        output = λ σ m. c .output σ m ∙ ap (λ (x : Outcome). over-at (printed x) at b) (sym (e σ m));
+      }
+
+  -- a refusal gives back the processor that went in
+  stop-same : (q : Processor) (k : ℕ) (r : Stepped) (b′ : List ℕ) → ((σ : Sweep) → Made σ p → q ≡ p) → CarryPost (λ σ. stops k) q at b r b′
+      → CarryPost (λ σ. stops k) p at b r b′
+  stop-same q k r b′ e c =
+      record {
+        inside = c .inside;
+        result = λ σ m. c .result σ (made σ m) ∙ ap (λ (x : Processor). steppedBy (stops k) x at) (e σ m);
+        output = λ σ m. c .output σ (made σ m);
+      }
+    where
+      made : (σ : Sweep) → Made σ p → Made σ q
+      made σ m = record { is = e σ m ∙ m .is; sound = m .sound }
+
+  -- ---- a piece, lent a buffer of so many bytes, enough for all its replies
+
+  module _ (P : Trace) (bytes most : ℕ) (few : (σ : Sweep) → length (freshOf σ P) ≤ most) (h₀ h : List ℕ) (lent : length h₀ ≡ bytes) (t : Taken) (post : TakePost p P h₀ t h) where
+    count-fresh : (σ : Sweep) → countOf σ P ≡ length (freshOf σ P)
+    count-fresh none = refl
+    count-fresh (running mode azimuth T) = refl
+
+    handed-fresh : (σ : Sweep) → handedOut σ P ≡ records (freshOf σ P)
+    unfolding records
+    handed-fresh none = refl
+    handed-fresh (running mode azimuth T) = refl
+
+    take-is : (σ : Sweep) → Made σ p → t ≡ takeAs (takeVerdict σ P bytes) σ P
+    take-is σ m = post .result σ m ∙ ap (λ (n : ℕ). takeAs (takeVerdict σ P n) σ P) lent
+
+    take-answer : (σ : Sweep) (v : Verdict) → takeAs v σ P .answer ≡ answered v (countOf σ P)
+    unfolding answered
+    take-answer σ accepted = refl
+    take-answer σ (refused k) = refl
+
+    answer-of : (σ : Sweep) → Made σ p → t .answer ≡ answered (takeVerdict σ P bytes) (countOf σ P)
+    answer-of σ m = ap (λ (x : Taken). x .answer) (take-is σ m) ∙ take-answer σ (takeVerdict σ P bytes)
+
+    -- it was refused
+    module _ (k : ℕ) (e : t .answer ≡ Refused k) (σ : Sweep) (m : Made σ p) where
+      pub turned-down : takeVerdict σ P bytes ≡ refused k
+      turned-down = refused-is (takeVerdict σ P bytes) (countOf σ P) (t .answer) k (answer-of σ m) e
+
+      pub given-back : t .processor ≡ p
+      given-back = ap (λ (x : Taken). x .processor) (take-is σ m) ∙ ap (λ (v : Verdict). takeAs v σ P .processor) turned-down ∙ sym (m .is)
+
+    -- it was accepted, and its replies were written
+    module _ (n : ℕ) (q : t .answer ≡ Accepted n) (σ : Sweep) (m : Made σ p) where
+      acc : Accepts (takeVerdict σ P bytes) (countOf σ P) n
+      acc = accepted-is (takeVerdict σ P bytes) (countOf σ P) (t .answer) n (answer-of σ m) q
+
+      pub carried-out : takeVerdict σ P bytes ≡ accepted
+      carried-out = acc .verdict
+
+      pub went-on : t .processor ≡ processorOf (longer σ P)
+      went-on = ap (λ (x : Taken). x .processor) (take-is σ m) ∙ ap (λ (v : Verdict). takeAs v σ P .processor) (acc .verdict)
+
+      left : h ≡ over (records (freshOf σ P)) h₀
+      left =
+          post .buffer σ m ∙ ap (λ (k : ℕ). takeBufferAs (takeVerdict σ P k) σ P h₀) lent ∙ ap (λ (v : Verdict). takeBufferAs v σ P h₀) (acc .verdict)
+          ∙ ap (λ (l : List ℕ). over l h₀) (handed-fresh σ)
+
+      pub replies-wrote : (size e : ℕ) (b′ : List ℕ) → size ≡ 18 * min n most → at + 39 * most ≤ length b → WritePost (recordLines (length (take size h) / 18) (take size h)) at b e b′
+          → Wrote (replyLines (freshOf σ P)) at b e b′
+      replies-wrote size e b′ cut room w =
+          records-wrote (freshOf σ P) h h₀ n most size left (acc .count ∙ count-fresh σ) (few σ) cut at b e b′ room w
+
+  module _ (room : at + 339 ≤ length b) where
+    -- ---- a refusal
+
+    pub stop-post : (k e : ℕ) (b′ : List ℕ) → WritePost (refusalLine k) at b e b′ → CarryPost (λ σ. stops k) p at b (record { step = Stops k e; processor = p }) b′
+    stop-post k e b′ w =
+        let d = wrote (refusalLine k) at b e b′ (omega arith) w in
+        record {
+          inside = write-inside (refusalLine k) at b e b′ (omega arith) w;
+          result = λ σ m. ap (λ (x : ℕ). record { step = Stops k x; processor = p }) (d .place);
+          output = λ σ m. d .buffer;
+        }
+
+    -- ---- opening
+
+    module _ (mode azimuth : ℕ) (o : Opened) (is : o ≡ openOf mode azimuth) where
+      open-answer : (v : Verdict) → openAs v mode azimuth .answer ≡ answered v 0
+      unfolding answered
+      open-answer accepted = refl
+      open-answer (refused k) = refl
+
+      answer-is : o .answer ≡ answered (openAnswer mode azimuth) 0
+      unfolding openOf
+      answer-is = ap (λ (x : Opened). x .answer) is ∙ open-answer (openAnswer mode azimuth)
+
+      pub open-refused : (k : ℕ) → o .answer ≡ Refused k → (r : Stepped) (b′ : List ℕ) → CarryPost (λ σ. stops k) p at b r b′
+          → CarryPost (λ σ. openedAs (openAnswer mode azimuth) mode azimuth) p at b r b′
+      open-refused k e r b′ c =
+          carry-as (λ σ. openedAs (openAnswer mode azimuth) mode azimuth) (λ σ. stops k) r b′
+          (λ σ m. ap (λ (v : Verdict). openedAs v mode azimuth) (refused-is (openAnswer mode azimuth) 0 (o .answer) k answer-is e)) c
+
+      pub open-accepted : (n : ℕ) → o .answer ≡ Accepted n
+          → CarryPost (λ σ. openedAs (openAnswer mode azimuth) mode azimuth) p at b (record { step = Goes at; processor = o .processor }) b
+      unfolding openOf processorOf
+      open-accepted n e =
+          let a = accepted-is (openAnswer mode azimuth) 0 (o .answer) n answer-is e in
+          let q : o .processor ≡ runningProcessor mode azimuth (record { flags = []; values = [] }) =
+          ap (λ (x : Opened). x .processor) is ∙ ap (λ (v : Verdict). openAs v mode azimuth .processor) (a .verdict) in
+          record {
+            inside = omega arith;
+            result = λ σ m.
+                ap₂ (λ (x : ℕ) (y : Processor). record { step = Goes x; processor = y }) (sym (add-zero at)) q
+                ∙ ap (λ (v : Verdict). steppedBy (openedAs v mode azimuth) p at) (sym (a .verdict));
+            output = λ σ m. sym (over-at-nil at b) ∙ ap (λ (v : Verdict). over-at (printed (openedAs v mode azimuth)) at b) (sym (a .verdict));
+          }
+
+    -- ---- a piece of at most 64 ticks
+
+    module _ (P : Trace) (small : length (P .flags) ≤ 64) (h₀ h : List ℕ) (lent : length h₀ ≡ 72) (t : Taken) (post : TakePost p P h₀ t h) where
+      fresh-few : (σ : Sweep) → length (freshOf σ P) ≤ 4
+      fresh-few none = omega arith
+      fresh-few (running mode azimuth T) = omega (arith, fresh-most standard T P)
+
+      pub take-refused : (k : ℕ) → t .answer ≡ Refused k → (r : Stepped) (b′ : List ℕ) → CarryPost (λ σ. stops k) (t .processor) at b r b′
+          → CarryPost (λ σ. takenAs (takeVerdict σ P 72) σ P) p at b r b′
+      take-refused k e r b′ c =
+          carry-as (λ σ. takenAs (takeVerdict σ P 72) σ P) (λ σ. stops k) r b′
+          (λ σ m. ap (λ (v : Verdict). takenAs v σ P) (turned-down P 72 4 fresh-few h₀ h lent t post k e σ m))
+          (stop-same (t .processor) k r b′ (λ σ m. given-back P 72 4 fresh-few h₀ h lent t post k e σ m) c)
+
+      pub take-accepted : (n : ℕ) → t .answer ≡ Accepted n → (size e : ℕ) (b′ : List ℕ) → size ≡ 18 * min n 4
+          → WritePost (recordLines (length (take size h) / 18) (take size h)) at b e b′
+          → CarryPost (λ σ. takenAs (takeVerdict σ P 72) σ P) p at b (record { step = Goes e; processor = t .processor }) b′
+      take-accepted n q size e b′ cut w =
+          record {
+            inside = write-inside (recordLines (length (take size h) / 18) (take size h)) at b e b′ (omega arith) w;
+            result = λ σ m.
+                ap₂ (λ (x : ℕ) (y : Processor). record { step = Goes x; processor = y }) (put σ m .place) (went-on P 72 4 fresh-few h₀ h lent t post n q σ m)
+                ∙ ap (λ (v : Verdict). steppedBy (takenAs v σ P) p at) (sym (accepts σ m));
+            output = λ σ m. put σ m .buffer ∙ ap (λ (v : Verdict). over-at (printed (takenAs v σ P)) at b) (sym (accepts σ m));
+          }
+        where
+          accepts : (σ : Sweep) → Made σ p → takeVerdict σ P 72 ≡ accepted
+          accepts σ m = carried-out P 72 4 fresh-few h₀ h lent t post n q σ m
+
+          put : (σ : Sweep) → Made σ p → Wrote (replyLines (freshOf σ P)) at b e b′
+          put σ m = replies-wrote P 72 4 fresh-few h₀ h lent t post n q σ m size e b′ cut (omega arith) w
+
+    -- ---- the close
+
+    module _ (h₀ h : List ℕ) (lent : length h₀ ≡ 144) (t : Closed) (post : ClosePost p h₀ t h) where
+      rest-few : (σ : Sweep) → length (restOf σ) ≤ 8
+      rest-few none = omega arith
+      rest-few (running mode azimuth T) = rest-most standard standard-allowed T
+
+      count-rest : (σ : Sweep) → leftCount σ ≡ length (restOf σ)
+      count-rest none = refl
+      count-rest (running mode azimuth T) = refl
+
+      handed-rest : (σ : Sweep) → leftOver σ ≡ records (restOf σ)
+      unfolding records
+      handed-rest none = refl
+      handed-rest (running mode azimuth T) = refl
+
+      abbrev close-verdict : Sweep → Verdict
+      close-verdict σ = closeVerdict σ 144
+
+      close-is : (σ : Sweep) → Made σ p → t ≡ closeAs (close-verdict σ) σ
+      close-is σ m = post .result σ m ∙ ap (λ (n : ℕ). closeAs (closeVerdict σ n) σ) lent
+
+      close-answer : (σ : Sweep) (v : Verdict) → closeAs v σ .answer ≡ answered v (leftCount σ)
+      unfolding answered
+      close-answer σ accepted = refl
+      close-answer σ (refused k) = refl
+
+      pub close-refused : (k : ℕ) → t .answer ≡ Refused k → (r : Stepped) (b′ : List ℕ) → CarryPost (λ σ. stops k) (t .processor) at b r b′
+          → CarryPost (λ σ. closedAs (closeVerdict σ 144) σ) p at b r b′
+      close-refused k e r b′ c =
+          carry-as (λ σ. closedAs (closeVerdict σ 144) σ) (λ σ. stops k) r b′ (λ σ m. ap (λ (v : Verdict). closedAs v σ) (verdict σ m))
+          (stop-same (t .processor) k r b′
+          (λ σ m. ap (λ (x : Closed). x .processor) (close-is σ m) ∙ ap (λ (v : Verdict). closeAs v σ .processor) (verdict σ m) ∙ sym (m .is)) c)
+        where
+          verdict : (σ : Sweep) → Made σ p → close-verdict σ ≡ refused k
+          verdict σ m = refused-is (close-verdict σ) (leftCount σ) (t .answer) k (ap (λ (x : Closed). x .answer) (close-is σ m) ∙ close-answer σ (close-verdict σ)) e
+
+      pub close-accepted : (n : ℕ) → t .answer ≡ Accepted n → (size e f : ℕ) (b₁ b′ : List ℕ) → size ≡ 18 * min n 8
+          → WritePost (recordLines (length (take size h) / 18) (take size h)) at b e b₁ → WritePost (totalsLine (t .totals)) e b₁ f b′
+          → CarryPost (λ σ. closedAs (closeVerdict σ 144) σ) p at b (record { step = Goes f; processor = t .processor }) b′
+      unfolding processorOf
+      close-accepted n q size e f b₁ b′ cut w₁ w₂ =
+          record {
+            inside = omega (arith, write-inside (totalsLine (t .totals)) e b₁ f b′ (omega (arith, same, write-inside (recordLines (length (take size h) / 18) (take size h)) at b e b₁ (omega arith) w₁)) w₂, same);
+            result = λ σ m.
+                ap₂ (λ (x : ℕ) (y : Processor). record { step = Goes x; processor = y }) (both σ m .place)
+                (ap (λ (x : Closed). x .processor) (close-is σ m) ∙ ap (λ (v : Verdict). closeAs v σ .processor) (acc σ m .verdict))
+                ∙ ap (λ (v : Verdict). steppedBy (closedAs v σ) p at) (sym (acc σ m .verdict));
+            output = λ σ m. both σ m .buffer ∙ ap (λ (v : Verdict). over-at (printed (closedAs v σ)) at b) (sym (acc σ m .verdict));
+          }
+        where
+          same : length b₁ ≡ length b
+          same = write-size (recordLines (length (take size h) / 18) (take size h)) at b e b₁ w₁
+
+          acc : (σ : Sweep) → Made σ p → Accepts (close-verdict σ) (leftCount σ) n
+          acc σ m = accepted-is (close-verdict σ) (leftCount σ) (t .answer) n (ap (λ (x : Closed). x .answer) (close-is σ m) ∙ close-answer σ (close-verdict σ)) q
+
+          left : (σ : Sweep) → Made σ p → h ≡ over (records (restOf σ)) h₀
+          left σ m =
+              post .buffer σ m ∙ ap (λ (k : ℕ). closeBufferAs (closeVerdict σ k) σ h₀) lent ∙ ap (λ (v : Verdict). closeBufferAs v σ h₀) (acc σ m .verdict)
+              ∙ ap (λ (l : List ℕ). over l h₀) (handed-rest σ)
+
+          totals-are : (σ : Sweep) → Made σ p → t .totals ≡ totalsOf σ
+          totals-are σ m = ap (λ (x : Closed). x .totals) (close-is σ m) ∙ ap (λ (v : Verdict). closeAs v σ .totals) (acc σ m .verdict)
+
+          put : (σ : Sweep) → Made σ p → Wrote (replyLines (restOf σ)) at b e b₁
+          put σ m =
+              records-wrote (restOf σ) h h₀ n 8 size (left σ m) (acc σ m .count ∙ count-rest σ) (rest-few σ) cut at b e b₁ (omega arith) w₁
+
+          both : (σ : Sweep) → Made σ p → Wrote (replyLines (restOf σ) ++ totalsLine (totalsOf σ)) at b f b′
+          both σ m =
+              let R = replyLines (restOf σ) in
+              let T = totalsLine (totalsOf σ) in
+              let one = put σ m in
+              let size-R = replies-length (restOf σ) in
+              let size-T = totals-length (totalsOf σ) in
+              let few = rest-few σ in
+              let two = wrote T e b₁ f b′ (omega (arith, one .place, size-R, size-T, few, same)) (subst (λ (x : Totals). WritePost (totalsLine x) e b₁ f b′) (totals-are σ m) w₂) in
+              record {
+                place = omega (arith, one .place, two .place, length-append R T);
+                buffer = over-at-next R T b b₁ b′ at e (one .place) (omega (arith, one .place, size-R, few)) (one .buffer) (two .buffer);
+              }
+
+-- ---- what a line says, taken apart
+
+pub said-refused : (l : Line) (k n : ℕ) → l ≡ Unread k → n ≡ numberOf l → (f v : List ℕ) (σ : Sweep) → saidAt l f v σ ≡ stops n
+said-refused l k n e q f v σ = ap (λ (x : Line). saidAt x f v σ) e ∙ ap stops (sym (q ∙ ap numberOf e))
+
+pub said-frame : (l : Line) (x y : Frame) → l ≡ Framed x → x ≡ y → (f v : List ℕ) (σ : Sweep) → saidAt l f v σ ≡ frameAt y f v σ
+said-frame l x y e q f v σ = ap (λ (z : Line). saidAt z f v σ) e ∙ ap (λ (z : Frame). frameAt z f v σ) q
+
+pub said-count : (l : Line) (x : Frame) (n : ℕ) → l ≡ Framed x → x ≡ Samples n → countIn l ≡ n
+said-count l x n e q = ap countIn (e ∙ ap Framed q)
+
+-- n of the bytes
+pub part-length : (l : List ℕ) (n : ℕ) → n ≤ length l → n ≡ length (take n l)
+part-length l n h = sym (length-take-le n l h)
+
+pub said-short : (l : Line) (x : Frame) (n : ℕ) (f : List ℕ) → l ≡ Framed x → x ≡ Samples n → countIn l ≤ 64 → countIn l ≤ length f → length (take n f) ≤ 64
+said-short l x n f e q a b = omega (arith, said-count l x n e q, length-take-le n f (omega (arith, said-count l x n e q)))
+
+-- ---- a line read
+
+over-length : (l b : List ℕ) → length l ≤ length b → length (over l b) ≡ length b
+unfolding over
+over-length l b h = length-append l (drop (length l) b) ∙ omega (arith, length-drop (length l) b)
+
+flags-after : (x : Reading) → Sized x → (b : List ℕ) → length b ≡ 64 → 64 ≡ length (flagsAfter x b)
+flags-after (opening mode azimuth) s b h = sym h
+flags-after (samples P) s b h = sym (over-length (P .flags) b (omega (arith, s .most)) ∙ h)
+flags-after closing s b h = sym h
+flags-after (unread k) s b h = sym h
+
+values-after : (x : Reading) → Sized x → (b : List ℕ) → length b ≡ 64 → 64 ≡ length (valuesAfter x b)
+values-after (opening mode azimuth) s b h = sym h
+values-after (samples P) s b h = sym (over-length (P .values) b (omega (arith, s .most, s .alike)) ∙ h)
+values-after closing s b h = sym h
+values-after (unread k) s b h = sym h
+
+count-most : (x : Reading) → Sized x → countIn (lineOf x) ≤ 64
+count-most (opening mode azimuth) s = omega arith
+count-most (samples P) s = s .most
+count-most closing s = omega arith
+count-most (unread k) s = omega arith
+
+-- the frame of a line, with the samples that it left in the buffers, is what the line says
+said-reading : (x : Reading) → Sized x → (f v : List ℕ) (σ : Sweep) → saidAt (lineOf x) (flagsAfter x f) (valuesAfter x v) σ ≡ carried σ x
+unfolding over
+said-reading (opening mode azimuth) s f v σ = refl
+said-reading (samples P) s f v σ =
+    ap₂ (λ (a b : List ℕ). takenAs (takeVerdict σ (pieceOf a b) 72) σ (pieceOf a b))
+    (take-append-seam (P .flags) (drop (length (P .flags)) f))
+    (ap (λ (n : ℕ). take n (P .values ++ drop (length (P .values)) v)) (s .alike) ∙ take-append-seam (P .values) (drop (length (P .values)) v))
+said-reading closing s f v σ = refl
+said-reading (unread k) s f v σ = refl
+
+module _ (line f₀ v₀ : List ℕ) (said : Line) (f v : List ℕ) (read : ReadPost line f₀ v₀ said f v) where
+  pub flags-lent : length f₀ ≡ 64 → 64 ≡ length f
+  flags-lent h = flags-after (reading line) (reading-sized line) f₀ h ∙ ap length (sym (read .flagBytes))
+
+  pub values-lent : length v₀ ≡ 64 → 64 ≡ length v
+  values-lent h = values-after (reading line) (reading-sized line) v₀ h ∙ ap length (sym (read .valueBytes))
+
+  pub said-most : countIn said ≤ 64
+  said-most = omega (arith, ap countIn (read .result), count-most (reading line) (reading-sized line))
+
+  said-is : (σ : Sweep) → saidAt said f v σ ≡ lineAt σ line
+  unfolding lineAt
+  said-is σ =
+      ap (λ (l : Line). saidAt l f v σ) (read .result)
+      ∙ ap₂ (λ (a b : List ℕ). saidAt (lineOf (reading line)) a b σ) (read .flagBytes) (read .valueBytes)
+      ∙ said-reading (reading line) (reading-sized line) f₀ v₀ σ
+
+  pub step-post : (p : Processor) (at : ℕ) (b : List ℕ) → roomy at b ≡ true → (r : Stepped) (b′ : List ℕ) → CarryPost (saidAt said f v) p at b r b′ → StepPost p line at b r b′
+  step-post p at b q r b′ c =
+      record {
+        inside = λ h. c .inside;
+        result = λ σ m.
+            c .result σ m ∙ ap (λ (o : Outcome). steppedBy o p at) (said-is σ) ∙ ap (λ (t : Bool). steppedAs t (lineAt σ line) p at) (sym q);
+        output = λ σ m.
+            c .output σ m ∙ ap (λ (o : Outcome). over-at (printed o) at b) (said-is σ) ∙ ap (λ (t : Bool). outputAs t (lineAt σ line) at b) (sym q);
+      }
+
+-- no room
+pub full-post : (p : Processor) (line : List ℕ) (at : ℕ) (b : List ℕ) → roomy at b ≡ false → StepPost p line at b (record { step = Full; processor = p }) b
+full-post p line at b q =
+    record {
+      inside = λ h. h;
+      result = λ σ m. ap (λ (t : Bool). steppedAs t (lineAt σ line) p at) (sym q);
+      output = λ σ m. ap (λ (t : Bool). outputAs t (lineAt σ line) at b) (sym q);
+    }

@@ -1,0 +1,55 @@
+-- What one line makes of a sweep, and what it prints.
+use Prim.Native.Nat.{ℕ}
+use mathlib.Core.List.{List, [], _++_}
+use Rattle.rules.specs.declared.Reply.{Reply}
+use Rattle.rules.specs.Settings.{standard}
+use Rattle.rules.specs.Samples.{Trace}
+use Rattle.rules.specs.Calls.{Answer as Verdict, accepted, refused, openAnswer, fresh, rest}
+use Rattle.sweep.specs.State.{Sweep, none, running}
+use Rattle.sweep.specs.Post.{longer, takeVerdict, closeVerdict, totalsOf}
+use Rattle.reading.specs.Frames.{Reading, opening, samples, closing, reading}
+use Rattle.reading.specs.Frames.{refused as unread}
+use Rattle.frames.specs.Writing.{replyLines, totalsLine, refusalLine}
+
+-- The survey goes on with a sweep (or none) and prints bytes, or stops with a refusal.
+pub data Outcome : Type 0 where
+  goes : Sweep → List ℕ → Outcome
+  stops : ℕ → Outcome
+
+-- "`01` during a sweep starts afresh": whatever the sweep was
+abbrev pub openedAs : Verdict → ℕ → ℕ → Outcome
+openedAs accepted mode azimuth = goes (running mode azimuth (record { flags = []; values = [] })) []
+openedAs (refused k) mode azimuth = stops k
+
+abbrev pub freshOf : Sweep → Trace → List Reply
+freshOf none P = []
+freshOf (running mode azimuth T) P = fresh standard T P
+
+abbrev pub takenAs : Verdict → Sweep → Trace → Outcome
+takenAs accepted σ P = goes (longer σ P) (replyLines (freshOf σ P))
+takenAs (refused k) σ P = stops k
+
+abbrev pub restOf : Sweep → List Reply
+restOf none = []
+restOf (running mode azimuth T) = rest standard T
+
+abbrev pub closedAs : Verdict → Sweep → Outcome
+closedAs accepted σ = goes none (replyLines (restOf σ) ++ totalsLine (totalsOf σ))
+closedAs (refused k) σ = stops k
+
+-- The lent buffers have 72 bytes, enough for the 64 samples of a line, and 144: number 7 never holds.
+abbrev pub carried : Sweep → Reading → Outcome
+carried σ (opening mode azimuth) = openedAs (openAnswer mode azimuth) mode azimuth
+carried σ (samples P) = takenAs (takeVerdict σ P 72) σ P
+carried σ closing = closedAs (closeVerdict σ 144) σ
+carried σ (unread k) = stops k
+
+-- what a line makes of a sweep
+unfoldable pub lineAt : Sweep → List ℕ → Outcome
+unfolding reading openAnswer takeVerdict closeVerdict
+lineAt σ l = carried σ (reading l)
+
+-- "Out: [..] `1f` and a refusal number"
+abbrev pub printed : Outcome → List ℕ
+printed (goes σ l) = l
+printed (stops k) = refusalLine k

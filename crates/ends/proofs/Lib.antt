@@ -1,0 +1,2 @@
+-- Laws of bytes without a newline.
+pub mod Newlines

@@ -1,0 +1,2 @@
+-- What is said of the end of a line.
+pub mod Ends

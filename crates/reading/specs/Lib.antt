@@ -1,0 +1,3 @@
+-- What a line says, and what reading it leaves in the buffers.
+pub mod Frames
+pub mod Post
