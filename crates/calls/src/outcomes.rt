@@ -1,4 +1,5 @@
 // The outcome of a call, as main.rt lays it down, at the start of a buffer of 968 bytes or more.
+use front::words::Front;
 use records::bits_of;
 use rules::Counts;
 use rules::Estimate;
@@ -9,7 +10,6 @@ use rules::Reply;
 use rules::Slot;
 use rules::Totals;
 use sweep::Answer;
-use sweep::Front;
 use sweep::Processor;
 ghost use Prim.Native.Nat.{_+_, _*_, _≤_};
 ghost use lib.ListN.{length};

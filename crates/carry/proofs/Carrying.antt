@@ -27,14 +27,13 @@ use Rattle.sweep.specs.declared.Taken.{Taken}
 use Rattle.sweep.specs.declared.Closed.{Closed}
 use Rattle.sweep.specs.State.{Sweep, none, running, processorOf, runningProcessor, idleProcessor, Made}
 use Rattle.sweep.specs.Post.{openAs, openOf, longer, handedOut, countOf, takeVerdict, takeAs, takeBufferAs, TakePost, closeVerdict, leftOver, leftCount, totalsOf, closeAs, closeBufferAs, ClosePost}
-use Rattle.sweep.proofs.Answers.{standard-allowed, first-records}
+use Rattle.rules.proofs.Answers.{standard-allowed, first-records}
 use Rattle.reading.specs.declared.Line.{Line}
 use Rattle.reading.specs.declared.Line.the-variants.{Frame as Framed, Refused as Unread}
 use Rattle.reading.specs.declared.Frame.{Frame}
 use Rattle.reading.specs.declared.Frame.the-variants.{Samples}
 use Rattle.frames.specs.Writing.{replyLines, recordLines, totalsLine, refusalLine}
-use Rattle.reading.specs.Frames.{Reading, opening, samples, closing, reading}
-use Rattle.reading.specs.Frames.{refused as unread}
+use Rattle.reading.specs.Frames.{Reading, opening, samples, closing, reading, refused as unread}
 use Rattle.reading.specs.Post.{lineOf, flagsAfter, valuesAfter, ReadPost}
 use Rattle.frames.specs.Post.{placeBehind, bufferWith, WritePost}
 use Rattle.reading.proofs.Sizes.{Sized, reading-sized}

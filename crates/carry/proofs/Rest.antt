@@ -7,8 +7,7 @@ use mathlib.Core.List.{List}
 use lib.ListN.{length}
 use borrow.Author.Tests.{leb-true}
 use Rattle.sweep.specs.State.{Sweep}
-use Rattle.reading.specs.Frames.{reading}
-use Rattle.reading.specs.Frames.{refused as unread}
+use Rattle.reading.specs.Frames.{reading, refused as unread}
 use Rattle.frames.specs.Writing.{refusalLine}
 use Rattle.frames.specs.Post.{WritePost}
 use Rattle.reading.proofs.Sizes.{no-newline}

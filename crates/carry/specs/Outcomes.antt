@@ -7,8 +7,7 @@ use Rattle.rules.specs.Samples.{Trace}
 use Rattle.rules.specs.Calls.{Answer as Verdict, accepted, refused, openAnswer, fresh, rest}
 use Rattle.sweep.specs.State.{Sweep, none, running}
 use Rattle.sweep.specs.Post.{longer, takeVerdict, closeVerdict, totalsOf}
-use Rattle.reading.specs.Frames.{Reading, opening, samples, closing, reading}
-use Rattle.reading.specs.Frames.{refused as unread}
+use Rattle.reading.specs.Frames.{Reading, opening, samples, closing, reading, refused as unread}
 use Rattle.frames.specs.Writing.{replyLines, totalsLine, refusalLine}
 
 -- The survey goes on with a sweep (or none) and prints bytes, or stops with a refusal.

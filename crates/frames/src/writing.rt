@@ -5,8 +5,7 @@ ghost use mathlib.Core.List.{[], _∷_};
 ghost use lib.Dec.{leb};
 ghost use lib.ListN.{length};
 ghost use Rattle.rules.specs.Buffers.{over-at};
-ghost use Rattle.frames.specs.Writing.{hexadecimal, written, recordLines, totalsBytes, totalsLine, refusalLine};
-ghost use Rattle.frames.specs.Writing.{glyph as glyph′};
+ghost use Rattle.frames.specs.Writing.{hexadecimal, written, recordLines, totalsBytes, totalsLine, refusalLine, glyph as glyph′};
 ghost use Rattle.frames.specs.Post.{WritePost};
 use rules::Totals;
 

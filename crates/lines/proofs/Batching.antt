@@ -25,10 +25,9 @@ use Rattle.sweep.specs.declared.Processor.{Processor}
 use Rattle.sweep.specs.declared.Taken.{Taken}
 use Rattle.sweep.specs.State.{Sweep, none, running, Sound, Made}
 use Rattle.sweep.specs.Post.{longer, takeVerdict, TakePost}
-use Rattle.sweep.proofs.Answers.{standard-allowed, took, join-assoc, join-nothing}
+use Rattle.rules.proofs.Answers.{standard-allowed, took, join-assoc, join-nothing}
 use Rattle.reading.specs.declared.Line.{Line}
-use Rattle.reading.specs.Frames.{Reading, opening, samples, closing, reading}
-use Rattle.reading.specs.Frames.{refused as unread}
+use Rattle.reading.specs.Frames.{Reading, opening, samples, closing, reading, refused as unread}
 use Rattle.frames.specs.Writing.{replyLine, replyLines, recordLines}
 use Rattle.reading.specs.Post.{lineOf, flagsAfter, valuesAfter, ReadPost}
 use Rattle.frames.specs.Post.{WritePost}

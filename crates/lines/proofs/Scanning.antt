@@ -19,9 +19,8 @@ use Rattle.rules.proofs.Buffers.{over-at-nil, over-at-next}
 use Rattle.sweep.specs.declared.Processor.{Processor}
 use Rattle.sweep.specs.State.{Sweep, none, running, processorOf, Within, Sound, Made}
 use Rattle.sweep.specs.Post.{longer, takeVerdict, closeVerdict}
-use Rattle.sweep.proofs.Answers.{took}
-use Rattle.reading.specs.Frames.{Reading, opening, samples, closing, reading}
-use Rattle.reading.specs.Frames.{refused as unread}
+use Rattle.rules.proofs.Answers.{took}
+use Rattle.reading.specs.Frames.{Reading, opening, samples, closing, reading, refused as unread}
 use Rattle.frames.specs.Writing.{refusalLine}
 use Rattle.reading.proofs.Sizes.{Sized, reading-sized, no-newline, too-long}
 use Rattle.ends.specs.Ends.{NoNewline, LineEnd, LinePast}
@@ -32,8 +31,7 @@ use Rattle.carry.specs.declared.Stepped.{Stepped}
 use Rattle.carry.specs.Outcomes.{Outcome, goes, stops, openedAs, takenAs, closedAs, carried, lineAt, printed}
 use Rattle.carry.specs.Post.{steppedAs, outputAs, roomy, placeOf, StepPost}
 use Rattle.carry.proofs.Rest.{nine, rest-nine}
-use Rattle.lines.specs.declared.scan.Scan.the-variants.{Rest, Stopped}
-use Rattle.lines.specs.declared.scan.Scan.the-variants.{Full as NoRoom}
+use Rattle.lines.specs.declared.scan.Scan.the-variants.{Rest, Stopped, Full as NoRoom}
 use Rattle.lines.specs.declared.scan.Scanned.{Scanned}
 use Rattle.lines.specs.Survey.{onto, linesIn, further, surveyed}
 use Rattle.lines.specs.Post.{afterwards, Scans, Because, ScanPost}

@@ -9,8 +9,7 @@ use Rattle.rules.specs.Buffers.{over-at}
 use Rattle.sweep.specs.declared.Processor.{Processor}
 use Rattle.sweep.specs.State.{Sweep, none, idleProcessor, processorOf, Made}
 use Rattle.lines.specs.declared.scan.Scan.{Scan}
-use Rattle.lines.specs.declared.scan.Scan.the-variants.{Rest, Stopped}
-use Rattle.lines.specs.declared.scan.Scan.the-variants.{Full as NoRoom}
+use Rattle.lines.specs.declared.scan.Scan.the-variants.{Rest, Stopped, Full as NoRoom}
 use Rattle.lines.specs.declared.scan.Scanned.{Scanned}
 use Rattle.carry.specs.Outcomes.{Outcome, lineAt, printed}
 use Rattle.lines.specs.Survey.{linesIn, further, surveyed, survey}

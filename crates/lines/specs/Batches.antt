@@ -13,8 +13,7 @@ use Rattle.rules.specs.Calls.{Answer as Verdict, accepted, refused}
 use Rattle.sweep.specs.declared.Processor.{Processor}
 use Rattle.sweep.specs.State.{Sweep, isOpen, takenBy, processorOf, Sound, Made}
 use Rattle.sweep.specs.Post.{longer, takeVerdict}
-use Rattle.reading.specs.Frames.{Reading, opening, samples, closing, reading}
-use Rattle.reading.specs.Frames.{refused as unread}
+use Rattle.reading.specs.Frames.{Reading, opening, samples, closing, reading, refused as unread}
 use Rattle.frames.specs.Writing.{replyLines}
 use Rattle.lines.specs.declared.batch.Gathering.{Gathering}
 use Rattle.lines.specs.declared.batch.Batched.{Batched}

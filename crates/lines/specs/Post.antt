@@ -10,8 +10,7 @@ use Rattle.frames.specs.Writing.{refusalLine}
 use Rattle.ends.specs.Ends.{LineEnd, LinePast}
 use Rattle.carry.specs.Outcomes.{stops, lineAt}
 use Rattle.lines.specs.declared.scan.Scan.{Scan}
-use Rattle.lines.specs.declared.scan.Scan.the-variants.{Rest, Stopped}
-use Rattle.lines.specs.declared.scan.Scan.the-variants.{Full as NoRoom}
+use Rattle.lines.specs.declared.scan.Scan.the-variants.{Rest, Stopped, Full as NoRoom}
 use Rattle.lines.specs.declared.scan.Scanned.{Scanned}
 use Rattle.lines.specs.Survey.{linesIn, surveyed}
 

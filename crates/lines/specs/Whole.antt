@@ -6,8 +6,7 @@ use lib.ListN.{length, take, drop}
 use Rattle.sweep.specs.declared.Processor.{Processor}
 use Rattle.sweep.specs.State.{Sweep, idleProcessor, Made}
 use Rattle.lines.specs.declared.scan.Scan.{Scan}
-use Rattle.lines.specs.declared.scan.Scan.the-variants.{Rest, Stopped}
-use Rattle.lines.specs.declared.scan.Scan.the-variants.{Full as NoRoom}
+use Rattle.lines.specs.declared.scan.Scan.the-variants.{Rest, Stopped, Full as NoRoom}
 use Rattle.lines.specs.declared.scan.Scanned.{Scanned}
 use Rattle.lines.specs.Survey.{linesIn, surveyed, survey}
 use Rattle.lines.specs.Post.{afterwards, ScanPost}

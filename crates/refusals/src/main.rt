@@ -1,6 +1,7 @@
 // Every refusal of open, take and close, alone and with later ones that hold too. A line for each says the answer; for a refusal, whether the
 // lent buffer, the processor and the end of the sweep are those without the call; for a call carried out, whether the rest of the buffer stays.
 use check::same;
+use front::words::Front;
 use libc::STDOUT_FILENO;
 use rules::Counts;
 use rules::Estimate;
@@ -15,7 +16,6 @@ use rules::Totals;
 use rules::Word;
 use sweep::Answer;
 use sweep::Closed;
-use sweep::Front;
 use sweep::Processor;
 use sweep::Taken;
 ghost use Prim.Native.Nat.{_≤_, _<_};

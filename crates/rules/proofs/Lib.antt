@@ -22,3 +22,4 @@ pub mod Joining
 pub mod Skipping
 pub mod PastEnd
 pub mod Examples
+pub mod Answers

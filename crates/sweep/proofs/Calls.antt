@@ -1,17 +1,17 @@
 -- Demand 3. Each call of a chain meets its contract, so the sweep that belongs to the processor goes on by the accepted pieces;
 -- what is handed out end to end is what is due, and with a close every reply. After an accepted close every call is refused with 3.
-use Prim.Native.Nat.{ℕ, zero, suc, _+_, _*_, _≤_}
+use Prim.Native.Nat.{ℕ, _+_, _≤_}
 use native.Mathlib.Omega.{arith}
 use mathlib.Core.Path.{_≡_, refl, sym, ap, _∙_, subst}
 use mathlib.Core.Bool.{Bool, true, false, not, _&&_, cond}
 use mathlib.Core.List.{List, [], _∷_, _++_, append-nil, append-assoc}
 use lib.Dec.{leb, ltb}
-use lib.ListN.{length, take, length-append}
+use lib.ListN.{length, length-append}
 use borrow.Author.Tests.{leb-true}
 use Rattle.rules.specs.declared.Totals.{Totals}
 use Rattle.rules.specs.Settings.{standard}
 use Rattle.rules.specs.Lists.{All}
-use Rattle.rules.specs.Samples.{Trace, _⧺_, sweepLimit}
+use Rattle.rules.specs.Samples.{Trace, _⧺_}
 use Rattle.rules.specs.Machine.{final}
 use Rattle.rules.specs.Records.{records, replies, totals}
 use Rattle.rules.specs.Calls.{Answer as Verdict, accepted, refused, openAnswer, takeAnswer, closeAnswer, handed, fresh, rest}
@@ -19,17 +19,16 @@ use Rattle.rules.proofs.Truth.{and-left}
 use Rattle.rules.proofs.ListLaws.{all-append}
 use Rattle.rules.proofs.Outcomes.{accounted}
 use Rattle.rules.proofs.Joining.{handed-fresh, handed-rest, records-append}
-use Rattle.sweep.specs.declared.Answer.{Answer}
 use Rattle.sweep.specs.declared.Answer.the-variants.{Accepted, Refused}
 use Rattle.sweep.specs.declared.Processor.{Processor}
 use Rattle.sweep.specs.declared.Opened.{Opened}
 use Rattle.sweep.specs.declared.Taken.{Taken}
 use Rattle.sweep.specs.declared.Closed.{Closed}
-use Rattle.sweep.specs.State.{Sweep, none, running, idleProcessor, runningProcessor, processorOf, Within, Made}
+use Rattle.sweep.specs.State.{none, running, idleProcessor, runningProcessor, processorOf, Within, Made}
 use Rattle.rules.specs.Buffers.{over}
-use Rattle.sweep.specs.Post.{openAs, openOf, longer, takeVerdict, closeVerdict, takeAs, takeBufferAs, closeAs, closeBufferAs, noTotals, TakePost, ClosePost}
-use Rattle.sweep.specs.Whole.{Call, taking, closing, Meets, left, Chain, last, nothing, pieceBy, piece, joinedTrace, handedBy, handedOut, allHandedOut, totalsBy, totalsIn, allTotals, verdictBy, sweepBy, Judged, answer, afterBy, afterClose, Counted, Whole, Demand3, Alike}
-use Rattle.sweep.proofs.Answers.{standard-allowed, Took, took, first-records, join-assoc, join-nothing}
+use Rattle.sweep.specs.Post.{openAs, openOf, takeVerdict, closeVerdict, takeAs, takeBufferAs, closeAs, closeBufferAs, noTotals, TakePost, ClosePost}
+use Rattle.sweep.specs.Whole.{Call, taking, closing, Chain, last, nothing, joinedTrace, allHandedOut, allTotals, Judged, answer, afterClose, Counted, Whole, Demand3, Alike}
+use Rattle.rules.proofs.Answers.{standard-allowed, took, first-records, join-assoc, join-nothing}
 
 -- ---- after an accepted close
 

@@ -1,14 +1,3 @@
-pub mod Answers
-pub mod Words
-pub mod Growing
-pub mod Advancing
-pub mod Spans
-pub mod Keeping
-pub mod Visiting
-pub mod Working
-pub mod Feeding
-pub mod Staying
-pub mod Streaming
 pub mod Operations
 pub mod Opening
 pub mod Calls

@@ -1,24 +1,23 @@
 -- What taking and closing return at each of their ends is what their contracts say.
-use Prim.Native.Nat.{ℕ, zero, suc, _+_, _-_, _*_, _/_, _≤_, _<_}
+use Prim.Native.Nat.{ℕ, suc, _+_, _-_, _*_, _/_, _≤_, _<_}
 use native.Mathlib.Omega.{arith}
 use native.Mathlib.Nat.{zero-add}
-use mathlib.Core.Path.{_≡_, refl, sym, ap, ap₂, _∙_, subst}
-use mathlib.Core.Bool.{Bool, true, false, not, cond}
+use mathlib.Core.Path.{_≡_, refl, sym, ap, _∙_, subst}
+use mathlib.Core.Bool.{Bool, true, false, cond}
 use mathlib.Core.List.{List, [], _∷_, _++_}
-use lib.Dec.{eqb, ltb, leb}
-use lib.ListN.{length, getD, take, drop, replicate, length-append}
-use borrow.Author.Tests.{lt-ltb, le-ltb, eq-eqb, ne-eqb, lt-leb, le-leb}
+use lib.ListN.{length, getD, replicate, length-append, length-replicate}
+use borrow.Author.Tests.{lt-ltb, le-ltb, eq-eqb, ne-eqb}
 use Rattle.rules.specs.declared.Reply.{Reply}
 use Rattle.rules.specs.declared.Counts.{Counts}
 use Rattle.rules.specs.declared.Machine.{Machine}
 use Rattle.rules.specs.declared.Totals.{Totals}
 use Rattle.rules.specs.Settings.{standard}
 use Rattle.rules.specs.Lists.{any, All}
-use Rattle.rules.specs.Samples.{Trace, _⧺_, bad, pieceLimit, sweepLimit}
-use Rattle.rules.specs.Machine.{final}
-use Rattle.rules.specs.Records.{records, totals}
-use Rattle.rules.specs.Calls.{Answer as Verdict, accepted, refused, takeAnswer, closeAnswer, takeRoom, closeRoom, fresh, rest, silence}
-use Rattle.rules.proofs.PastEnd.{rest-silence}
+use Rattle.rules.specs.Samples.{Trace, _⧺_, bad}
+use Rattle.rules.specs.Machine.{final, State, after}
+use Rattle.rules.specs.Records.{records, totals, replies}
+use Rattle.rules.specs.Calls.{Answer as Verdict, accepted, refused, takeAnswer, closeAnswer, takeRoom, fresh, rest, silence}
+use Rattle.rules.proofs.PastEnd.{rest-silence, past-end, after-silence}
 use Rattle.machine.specs.Places.{machineOf}
 use Rattle.rules.specs.Buffers.{over, over-at}
 use Rattle.sweep.specs.declared.Answer.{Answer}
@@ -26,12 +25,34 @@ use Rattle.sweep.specs.declared.Answer.the-variants.{Accepted, Refused}
 use Rattle.sweep.specs.declared.Processor.{Processor}
 use Rattle.sweep.specs.declared.Taken.{Taken}
 use Rattle.sweep.specs.declared.Closed.{Closed}
-use Rattle.sweep.specs.declared.blocks.Run.{Run}
-use Rattle.sweep.specs.State.{frontOf, recentOf, Sweep, none, running, idleProcessor, runningProcessor, processorOf, Within, Made}
-use Rattle.sweep.specs.Post.{takeVerdict, takeAs, takeBufferAs, TakePost, closeVerdict, closeAs, closeBufferAs, noTotals, ClosePost}
-use Rattle.sweep.specs.Steps.{stateAt, Fed, Begins, FeedPost, Ends, DrainPost, KeepPost, totalsFrom}
-use Rattle.sweep.proofs.Answers.{standard-allowed}
-use Rattle.sweep.proofs.Streaming.{totals-law}
+use Rattle.pieces.specs.declared.blocks.Run.{Run}
+use Rattle.front.specs.Words.{frontOf, recentOf}
+use Rattle.sweep.specs.State.{Sweep, none, running, idleProcessor, runningProcessor, processorOf, Within, Made}
+use Rattle.sweep.specs.Post.{takeVerdict, takeAs, takeBufferAs, TakePost, closeVerdict, closeAs, closeBufferAs, noTotals, ClosePost, totalsFrom}
+use Rattle.pieces.specs.Steps.{stateAt, Fed, FeedPost, DrainPost}
+use Rattle.front.specs.Post.{KeepPost}
+use Rattle.rules.proofs.Answers.{standard-allowed}
+use Rattle.rules.specs.Edges.{edgeAt}
+use Rattle.rules.proofs.Outcomes.{after-balanced}
+
+-- ---- the totals of a sweep, from the machine after the zeros
+
+totals-final : (T : Trace) → totalsFrom (final standard T .counts) ≡ totals (final standard T)
+unfolding totals final
+totals-final T =
+    let s = after _+_ standard (edgeAt standard T) (length (T .flags)) in
+    let h = after-balanced standard (edgeAt standard T) (length (T .flags)) in
+    let c = s .counts in
+    let r : c .opened - c .phantoms ≡ length (s .done ++ s .live) = omega (arith, h .kept, length-append (s .done) (s .live)) in
+    λ i. record { found = c .found; replies = r i; sidelobe = c .sidelobe; garbled = c .garbled; lost = c .lost; phantoms = c .phantoms }
+
+pub totals-law : (T : Trace) → totalsFrom (stateAt (T ⧺ silence 448) (length (T .flags ++ replicate 448 0) - 178) .counts) ≡ totals (final standard T)
+totals-law T =
+    let N = length (T .flags ++ replicate {A = ℕ} 448 0) in
+    let l : length (T .flags) ≤ N - 178 = omega (arith, length-append (T .flags) (replicate {A = ℕ} 448 0), length-replicate {A = ℕ} 448 0) in
+    ap (λ (s : State). totalsFrom (s .counts)) (after-silence standard standard-allowed T 448 (N - 178))
+    ∙ ap totalsFrom (past-end standard standard-allowed T (N - 178) l .counts)
+    ∙ totals-final T
 
 -- ---- the sweep behind a processor
 

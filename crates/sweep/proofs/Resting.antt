@@ -6,30 +6,31 @@ use native.Mathlib.Numerals.{add-one}
 use mathlib.Core.Path.{_≡_, refl, sym, ap, _∙_, subst}
 use mathlib.Core.Bool.{Bool, true, false}
 use mathlib.Core.List.{List, [], _∷_, _++_}
-use lib.Dec.{ltb}
 use lib.ListN.{length, getD, replicate, length-append, length-replicate}
 use borrow.Author.Tests.{ltb-false, le-ltb}
 use Rattle.rules.specs.declared.Reply.{Reply}
 use Rattle.rules.specs.Settings.{standard}
 use Rattle.rules.specs.Lists.{All}
-use Rattle.rules.specs.Samples.{Trace, _⧺_, A, P, N, M, odd, sweepLimit}
+use Rattle.rules.specs.Samples.{Trace, A, P, N, M, odd, sweepLimit}
 use Rattle.rules.specs.Replies.{f1, ended}
 use Rattle.rules.specs.Calls.{takeRoom, fresh}
 use Rattle.rules.proofs.Truth.{impossible}
 use Rattle.lanes.specs.Columns.{Rows}
 use Rattle.edges.specs.declared.packing.Planes.{Planes}
-use Rattle.edges.specs.Words.{bit, HoldsPart}
+use Rattle.edges.specs.Words.{HoldsPart}
 use Rattle.edges.specs.Packing.{PackedPart}
 use Rattle.edges.specs.Flags.{Bare}
 use Rattle.edges.proofs.BitLaws.{zero-bit}
 use Rattle.sweep.specs.declared.Processor.{Processor}
-use Rattle.sweep.specs.declared.front.Front.{Front}
-use Rattle.sweep.specs.declared.blocks.Stand.{Stand}
-use Rattle.sweep.specs.State.{running, runningProcessor, processorOf, frontOf, recentOf, Made}
-use Rattle.sweep.specs.Steps.{still, Waits, Stays, runOf, FedColumns, BlocksPost}
+use Rattle.front.specs.declared.words.Front.{Front}
+use Rattle.pieces.specs.declared.blocks.Stand.{Stand}
+use Rattle.sweep.specs.State.{running, runningProcessor, processorOf, Made}
+use Rattle.front.specs.Words.{recentOf}
+use Rattle.front.specs.Post.{still}
+use Rattle.pieces.specs.Steps.{Waits, Stays, runOf, FedColumns, BlocksPost}
 use Rattle.sweep.specs.Post.{Rests, Standing, QuietPost}
-use Rattle.sweep.proofs.Staying.{stays-law}
-use Rattle.sweep.proofs.Streaming.{Feeding, feed-start, feed-next, feed-end, enters-piece}
+use Rattle.pieces.proofs.Staying.{stays-law}
+use Rattle.pieces.proofs.Streaming.{Feeding, feed-start, feed-next, feed-end, enters-piece}
 use Rattle.sweep.proofs.Operations.{mode-of, azimuth-of, taken-of, front-of, recent-of, machine-of}
 
 -- ---- one tick

@@ -1,5 +1,4 @@
 -- The processor of a sweep, the contracts of its operations, and demand 3.
 pub mod State
 pub mod Post
-pub mod Steps
 pub mod Whole

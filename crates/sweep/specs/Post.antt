@@ -1,6 +1,6 @@
 -- What each operation returns and leaves in its buffer. The equations hold for every processor that belongs to a sweep (`Made`);
 -- for a processor value that no calls make, an operation is safe and ends.
-use Prim.Native.Nat.{ℕ, _+_, _≤_}
+use Prim.Native.Nat.{ℕ, _+_, _-_, _≤_}
 use mathlib.Core.Bool.{Bool, true}
 use mathlib.Core.List.{List, [], _++_}
 use mathlib.Core.Path.{_≡_}
@@ -16,12 +16,13 @@ use Rattle.rules.specs.declared.Totals.{Totals}
 use Rattle.sweep.specs.declared.Answer.the-variants.{Accepted, Refused}
 use Rattle.rules.specs.declared.Counts.{Counts}
 use Rattle.lanes.specs.Columns.{Rows, Sized, machineAt}
-use Rattle.sweep.specs.declared.front.Front.{Front}
+use Rattle.front.specs.declared.words.Front.{Front}
 use Rattle.sweep.specs.declared.Processor.{Processor}
 use Rattle.sweep.specs.declared.Opened.{Opened}
 use Rattle.sweep.specs.declared.Taken.{Taken}
 use Rattle.sweep.specs.declared.Closed.{Closed}
-use Rattle.sweep.specs.State.{Sweep, none, running, processorOf, idleProcessor, runningProcessor, recentOf, isOpen, takenBy, Made}
+use Rattle.sweep.specs.State.{Sweep, none, running, processorOf, idleProcessor, runningProcessor, isOpen, takenBy, Made}
+use Rattle.front.specs.Words.{recentOf}
 
 -- ---- open. "No processor comes back": a refused opening's is the idle one.
 
@@ -122,3 +123,8 @@ closeBufferAs (refused k) σ b = b
 pub record ClosePost (p : Processor) (b : List ℕ) (r : Closed) (b′ : List ℕ) : Type 0 where
   pub result : (σ : Sweep) → Made σ p → r ≡ closeAs (closeVerdict σ (length b)) σ
   pub buffer : (σ : Sweep) → Made σ p → b′ ≡ closeBufferAs (closeVerdict σ (length b)) σ b
+
+-- the totals, from the counts of the machine
+abbrev pub totalsFrom : Counts → Totals
+totalsFrom c =
+    record { found = c .found; replies = c .opened - c .phantoms; sidelobe = c .sidelobe; garbled = c .garbled; lost = c .lost; phantoms = c .phantoms }

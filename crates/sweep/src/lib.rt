@@ -1,34 +1,25 @@
 // Opening, taking and closing a sweep. A processor goes in by value and comes back by value; a refusal gives back the one that went in.
 // No operation asks anything of its caller: any processor value, any slices and any buffer are safe.
-mod blocks;
-mod front;
-mod pieces;
-mod span;
-mod values;
-
 ghost use Prim.Native.Nat.{_≤_};
 ghost use mathlib.Core.Path.{_≡_};
 ghost use Rattle.rules.specs.Calls.{takeRoom};
 ghost use Rattle.sweep.specs.State.{idleProcessor};
-ghost use Rattle.sweep.specs.Post.{openOf, noTotals, TakePost, QuietPost, ClosePost};
+ghost use Rattle.sweep.specs.Post.{openOf, noTotals, TakePost, QuietPost, ClosePost, totalsFrom};
 ghost use Rattle.sweep.specs.declared.Answer.the-variants.{Refused};
-ghost use Rattle.sweep.specs.Steps.{totalsFrom};
-pub use blocks::Run;
-pub use blocks::Stand;
-use blocks::none_due;
 use edges::flags::has_bad;
 use edges::flags::is_bare;
-pub use front::Front;
-use front::is_still;
-use front::no_front;
+use front::values::keep;
+use front::words::Front;
+use front::words::is_still;
+use front::words::no_front;
 use machine::empty_machine;
-use pieces::drain;
-use pieces::feed;
-pub use pieces::feed_columns;
+use pieces::blocks::Run;
+use pieces::blocks::none_due;
+use pieces::feeding::drain;
+use pieces::feeding::feed;
 use rules::Counts;
 use rules::Machine;
 use rules::Totals;
-pub use values::keep;
 
 // Mode 0: no sweep is open. `recent` holds the values of the last 256 ticks, the newest last.
 pub struct Processor {

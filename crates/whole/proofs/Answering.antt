@@ -23,7 +23,7 @@ use Rattle.sweep.specs.declared.Processor.{Processor}
 use Rattle.sweep.specs.declared.Opened.{Opened}
 use Rattle.sweep.specs.State.{running, runningProcessor, processorOf, Made}
 use Rattle.sweep.specs.Post.{openAs, openOf}
-use Rattle.sweep.proofs.Answers.{standard-allowed}
+use Rattle.rules.proofs.Answers.{standard-allowed}
 use Rattle.whole.specs.declared.Reached.{Reached}
 use Rattle.whole.specs.Post.{wholeRoom, wholeAnswer, numberOf, answerOf, recordsOf, totalsOf, WholePost, Taken, Takes, TakeAllPost, CloseAtPost}
 use Rattle.whole.proofs.Taking.{or-left, or-right, over-more, handed-most}

@@ -19,13 +19,14 @@ use Rattle.lanes.specs.Columns.{Rows, Sized, machineAt}
 use Rattle.sweep.specs.declared.Answer.{Answer}
 use Rattle.sweep.specs.declared.Answer.the-variants.{Accepted, Refused}
 use Rattle.sweep.specs.declared.Processor.{Processor}
-use Rattle.sweep.specs.declared.blocks.Stand.{Stand}
+use Rattle.pieces.specs.declared.blocks.Stand.{Stand}
 use Rattle.sweep.specs.State.{running, runningProcessor, processorOf, Made}
 use Rattle.sweep.specs.Post.{takeVerdict, QuietPost}
-use Rattle.sweep.specs.Steps.{Begins, runOf, FedColumns, ColumnsPost, KeepPost}
-use Rattle.sweep.proofs.Answers.{took}
+use Rattle.pieces.specs.Steps.{Begins, runOf, FedColumns, ColumnsPost}
+use Rattle.front.specs.Post.{KeepPost}
+use Rattle.rules.proofs.Answers.{took}
 use Rattle.sweep.proofs.Operations.{mode-of, azimuth-of, taken-of, front-of, recent-of, machine-of}
-use Rattle.sweep.proofs.Working.{over-nil}
+use Rattle.pieces.proofs.Working.{over-nil}
 use Rattle.whole.specs.declared.Reached.{Reached}
 
 unfoldable pub isRefused : Answer → Bool
@@ -127,12 +128,14 @@ module _ (p : Processor) (x : Rows) (o : Stand) (recent : List ℕ) (base : ℕ)
               let e3 : n ≡ length (T .flags ++ P .flags) = omega (arith, ticks, taken-of mode azimuth T q is, length-append (T .flags) (P .flags)) in
               let e4 = f .fed .front in
               let e5 = keeps .result (T .values) (recent-of mode azimuth T q is) in
-              let e6 = f .fed .machine in
-              (record {
-                processor = λ i. record { mode = e1 i; azimuth = e2 i; taken = e3 i; front = e4 i; recent = e5 i; machine = e6 i };
-                place = omega (arith, e, f .fed .place, few T z g);
-                buffer = whole-is T z g;
-              }, f .sized);
+              let e6 = f .fed .machine in (
+                record {
+                  processor = λ i. record { mode = e1 i; azimuth = e2 i; taken = e3 i; front = e4 i; recent = e5 i; machine = e6 i };
+                  place = omega (arith, e, f .fed .place, few T z g);
+                  buffer = whole-is T z g;
+                },
+                f .sized,
+              );
         }
 
   -- a piece that finds nothing is taken in place
@@ -145,10 +148,12 @@ module _ (p : Processor) (x : Rows) (o : Stand) (recent : List ℕ) (base : ℕ)
         result = λ z mode azimuth T m v.
             let w =
             quiet .result is q (record { ticks = refl; words = refl; rows = x; counts = o .counts; first = refl; sized = z; machine = refl }) mode azimuth T (P .values) m alike bytes in
-            let k = keeps .result (T .values) (recent-of mode azimuth T q (m .is)) in
-            (record {
-              processor = (λ i. record { mode = p .mode; azimuth = p .azimuth; taken = ticks i; front = o .front; recent = k i; machine = machineAt x (o .counts) }) ∙ w .processor;
-              place = omega (arith, ap length (w .none-due));
-              buffer = sym (ap (λ (l : List Reply). over-at (records l) at b) (w .none-due) ∙ over-nil at b);
-            }, z);
+            let k = keeps .result (T .values) (recent-of mode azimuth T q (m .is)) in (
+              record {
+                processor = (λ i. record { mode = p .mode; azimuth = p .azimuth; taken = ticks i; front = o .front; recent = k i; machine = machineAt x (o .counts) }) ∙ w .processor;
+                place = omega (arith, ap length (w .none-due));
+                buffer = sym (ap (λ (l : List Reply). over-at (records l) at b) (w .none-due) ∙ over-nil at b);
+              },
+              z,
+            );
       }

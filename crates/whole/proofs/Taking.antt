@@ -31,13 +31,14 @@ use Rattle.sweep.specs.declared.Answer.{Answer}
 use Rattle.sweep.specs.declared.Answer.the-variants.{Accepted, Refused}
 use Rattle.sweep.specs.declared.Processor.{Processor}
 use Rattle.sweep.specs.declared.Closed.{Closed}
-use Rattle.sweep.specs.declared.blocks.Stand.{Stand}
+use Rattle.pieces.specs.declared.blocks.Stand.{Stand}
 use Rattle.sweep.specs.State.{Sweep, none, running, runningProcessor, processorOf, Within, Made}
 use Rattle.sweep.specs.Post.{takeVerdict, closeVerdict, closeAs, closeBufferAs, QuietPost, ClosePost}
-use Rattle.sweep.specs.Steps.{ColumnsPost, KeepPost}
-use Rattle.sweep.proofs.Answers.{standard-allowed}
+use Rattle.pieces.specs.Steps.{ColumnsPost}
+use Rattle.front.specs.Post.{KeepPost}
+use Rattle.rules.proofs.Answers.{standard-allowed}
 use Rattle.sweep.proofs.Operations.{mode-of, azimuth-of, front-of, recent-of, machine-of}
-use Rattle.sweep.proofs.Working.{loaded}
+use Rattle.pieces.proofs.Working.{loaded}
 use Rattle.whole.specs.declared.Reached.{Reached}
 use Rattle.whole.specs.Post.{wholeRoom, Taken, Takes, TakeAllPost, CloseAtPost}
 use Rattle.whole.proofs.Pieces.{isRefused, countIn, over-rest, mid-is, post-is, processorAt, Reaches, TakesAt, q, piece-fed, piece-quiet}
@@ -145,12 +146,14 @@ module _ (p : Processor) (T : Trace) (piece : ℕ) (b₀ : List ℕ) (alike : le
             let e4 = front-of mode azimuth nothing p e in
             let e5 = recent-of mode azimuth nothing p e in
             let e6 : record { places = placesOf (record { f1 = f′; marks = n′; row = w′; level = v′; on = on }); counts = p .machine .counts } ≡ p .machine = λ i. record { places = l .places i; counts = p .machine .counts } in
-            let e7 = e6 ∙ machine-of mode azimuth nothing p e in
-            (record {
-              processor = λ i. record { mode = e1 i; azimuth = e2 i; taken = 0; front = e4 i; recent = e5 i; machine = e7 i };
-              place = omega (arith, ap length none-due);
-              buffer = ap (λ (l : List Reply). over (records l) b₀) (sym none-due);
-            }, l .sized);
+            let e7 = e6 ∙ machine-of mode azimuth nothing p e in (
+              record {
+                processor = λ i. record { mode = e1 i; azimuth = e2 i; taken = 0; front = e4 i; recent = e5 i; machine = e7 i };
+                place = omega (arith, ap length none-due);
+                buffer = ap (λ (l : List Reply). over (records l) b₀) (sym none-due);
+              },
+              l .sized,
+            );
       }
 
   module _ (x : Rows) (y : Stand) (recent : List ℕ) (at i end : ℕ) (b : List ℕ) (h : Takings p T piece b₀ x y recent at i b) (more : i < length (T .flags))
@@ -209,15 +212,17 @@ module _ (p : Processor) (T : Trace) (piece : ℕ) (b₀ : List ℕ) (alike : le
         now-taken =
             let H = handed standard (upTo i T) in
             let F = fresh standard (upTo i T) (between i end T) in
-            let reached = took .0 in
-            (record {
-              processor = reached .processor ∙ ap (runningProcessor mode azimuth) (up-more T i end (omega (arith, step)));
-              place = omega (arith, reached .place, before .place, ap length joined, length-append H F);
-              buffer =
-                  reached .buffer ∙ ap (over-at (records F) at) (before .buffer)
-                  ∙ over-more (records H) (records F) b₀ at (before .place ∙ sym (records-length H)) (h .inside)
-                  ∙ ap (λ (l : List ℕ). over l b₀) (sym (records-append H F) ∙ ap records (sym joined));
-            }, took .1)
+            let reached = took .0 in (
+              record {
+                processor = reached .processor ∙ ap (runningProcessor mode azimuth) (up-more T i end (omega (arith, step)));
+                place = omega (arith, reached .place, before .place, ap length joined, length-append H F);
+                buffer =
+                    reached .buffer ∙ ap (over-at (records F) at) (before .buffer)
+                    ∙ over-more (records H) (records F) b₀ at (before .place ∙ sym (records-length H)) (h .inside)
+                    ∙ ap (λ (l : List ℕ). over l b₀) (sym (records-append H F) ∙ ap records (sym joined));
+              },
+              took .1,
+            )
 
       takings-next : length b′ ≡ length b → Takings p T piece b₀ x′ y′ kept to end b′
       takings-next l = record { size = l ∙ h .size; inside = omega (arith, post .inside, h .size); reach = here; start = begun; result = now-taken }

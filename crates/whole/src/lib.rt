@@ -7,17 +7,17 @@ ghost use Rattle.rules.specs.Buffers.{over};
 ghost use Rattle.frames.specs.Writing.{totalsBytes};
 use edges::flags::has_bad;
 use frames::totals_bytes;
+use front::values::keep;
 use lanes::columns::places_of;
 use lanes::steps::load;
+use pieces::blocks::Stand;
+use pieces::feeding::feed_columns;
 use rules::Machine;
 use rules::Totals;
 use sweep::Answer;
 use sweep::Processor;
-use sweep::Stand;
 use sweep::close;
-use sweep::feed_columns;
 use sweep::is_quiet;
-use sweep::keep;
 use sweep::open;
 
 // The processor after some pieces, and the place in the buffer behind the last record.

@@ -1,7 +1,6 @@
-use Rattle.carry.proofs.Carrying.{said-short}
+use Rattle.carry.proofs.Carrying.{said-short, carry-as, said-refused, said-frame, said-count, part-length}
 use native.Mathlib.Omega.{arith}
 use Rattle.carry.specs.Post.{saidAt}
-use Rattle.carry.proofs.Carrying.{carry-as, said-refused, said-frame, said-count, part-length}
 use borrow.Author.Needs.{needs}
 use Rattle.carry.proofs.carry_out.Statement.{statement}
 use Rattle.carry.proofs.carry_out.Tie as tie

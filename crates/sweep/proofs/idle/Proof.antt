@@ -5,7 +5,7 @@ use Rattle.sweep.proofs.idle.Tie as tie
 use Rattle.sweep.proofs.idle.Reads as reads
 use Rattle.sweep.proofs.idle.Lts as lts
 use Rattle.machine.proofs.empty_machine.Reads as empty-machine-reads
-use Rattle.sweep.proofs.front.no_front.Reads as no-front-reads
+use Rattle.front.proofs.words.no_front.Reads as no-front-reads
 
 -- src/lib.rt:68:16
 no-front-requires : tie.Need-no-front-requires

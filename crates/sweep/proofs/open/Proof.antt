@@ -5,7 +5,7 @@ use Rattle.sweep.proofs.open.Tie as tie
 use Rattle.sweep.proofs.open.Reads as reads
 use Rattle.sweep.proofs.open.Lts as lts
 use Rattle.machine.proofs.empty_machine.Reads as empty-machine-reads
-use Rattle.sweep.proofs.front.no_front.Reads as no-front-reads
+use Rattle.front.proofs.words.no_front.Reads as no-front-reads
 use Rattle.sweep.proofs.idle.Reads as idle-reads
 
 -- src/lib.rt:81:24

@@ -1,9 +1,8 @@
 use lib.ListN.{length}
 use Prim.Native.Nat.{_+_, _*_}
-use mathlib.Core.Path.{_∙_}
+use mathlib.Core.Path.{_∙_, refl}
 use Rattle.frames.proofs.Printing.{line-same, line-put}
 use native.Mathlib.Omega.{arith}
-use mathlib.Core.Path.{refl}
 use borrow.Author.Needs.{needs}
 use Rattle.frames.proofs.writing.put_line.Statement.{statement}
 use Rattle.frames.proofs.writing.put_line.Tie as tie

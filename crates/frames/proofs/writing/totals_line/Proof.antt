@@ -1,10 +1,9 @@
-use Prim.Native.Nat.{ℕ}
+use Prim.Native.Nat.{ℕ, _+_}
 use mathlib.Core.List.{List, _∷_}
 use Rattle.rules.specs.Buffers.{over-at}
 use Rattle.frames.specs.Writing.{totalsLine, written}
 use Rattle.frames.proofs.Printing.{write-none, write-all, totals-length}
 use native.Mathlib.Omega.{arith}
-use Prim.Native.Nat.{_+_}
 use lib.ListN.{length}
 use mathlib.Core.Path.{refl, sym, _∙_, ap}
 use borrow.Author.Tests.{not-true, not-false, leb-true}

@@ -1,5 +1,4 @@
 use Rattle.lanes.proofs.Purging.{purge-none, purge-law}
-use Rattle.lanes.proofs.Purging.{purge-none}
 use native.Mathlib.Omega.{arith}
 use borrow.Author.Tests.{not-true, not-false}
 use borrow.Author.Needs.{needs}

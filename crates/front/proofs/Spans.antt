@@ -1,0 +1,221 @@
+-- The machine's view of 64 ticks: the words of a span give at each tick the edge and the bracket of the rules.
+-- Values are read from the piece or from the 256 values before it; both are those of the joined trace.
+use Prim.Native.Nat.{ℕ, _+_, _-_, _≤_, _<_}
+use native.Mathlib.Omega.{arith}
+use mathlib.Core.Path.{_≡_, refl, sym, ap, _∙_, subst}
+use mathlib.Core.Bool.{Bool, true, false, not, _&&_, _||_, cond}
+use mathlib.Core.List.{List, _++_, append-assoc}
+use lib.Dec.{leb}
+use lib.ListN.{length, getD, drop, replicate, length-append, length-replicate, List·getD-append, List·getD-eq-default}
+use lib.Seq.{getD-drop, getD-append-add, drop-append-le, drop-drop}
+use borrow.Author.Tests.{leb-true, leb-false, le-leb, lt-leb}
+use Rattle.rules.specs.declared.Bracket.the-variants.{Without, With}
+use Rattle.rules.specs.Settings.{standard}
+use Rattle.rules.specs.Samples.{Trace, M}
+use Rattle.rules.specs.Edges.{stands, edgeAt}
+use Rattle.rules.specs.Machine.{bracketOf, bracketAt}
+use Rattle.rules.proofs.Truth.{impossible, or-left, or-right}
+use Rattle.edges.specs.Words.{bit, Holds, Slid}
+use Rattle.edges.specs.Planes.{hasEdge}
+use Rattle.edges.specs.Brackets.{Due, At168, At167}
+use Rattle.front.specs.declared.words.Front.{Front}
+use Rattle.front.specs.declared.span.Span.{Span}
+use Rattle.front.specs.Words.{padded, recentOf}
+use Rattle.front.specs.Post.{valueOf, KeepPost, Spanned, SpanPost, pulseIn, bracketIn, Reads}
+use Rattle.front.proofs.Growing.{stands-padded, padded-M}
+use Rattle.front.proofs.Advancing.{Fronted, fronted, on}
+
+-- ---- the words of a span
+
+-- the same plane, counted from c ticks later
+shift : (g : ℕ → Bool) (b c x : ℕ) → Holds g (b + c) x → Holds (λ u. g (u + c)) b x
+shift g b c x h = record { below = h .below; at = λ i l. h .at i l ∙ ap g (swap b c i) }
+  where
+    swap : (b c i : ℕ) → b + c + i ≡ b + i + c
+    swap b c i = omega arith
+
+slid : (g : ℕ → Bool) (t c d e k before now x : ℕ) → k ≤ 64 → c + k ≡ d + e → Slid before now k x → Holds g (t + c) before → Holds g (t + (c + 64)) now → Holds (λ u. g (u + e)) (t + d) x
+slid g t c d e k before now x h q s b n =
+    shift g (t + d) e x
+    (subst (λ (y : ℕ). Holds g y x) (base t) (s .holds g (t + c) b (λ m l. n .at m (omega arith) ∙ ap g (next t m))))
+  where
+    base : (t : ℕ) → t + c + k ≡ t + d + e
+    base t = omega arith
+
+    next : (t m : ℕ) → t + (c + 64) + m ≡ t + c + 64 + m
+    next t m = omega arith
+
+pub record SpanMade (f : Front) (s : Span) : Type 0 where
+  pub due : Due (f .e2) (f .e3) (s .due)
+  pub at168 : At168 (f .e) (f .e1) (s .at168)
+  pub at167 : At167 (f .e) (f .e1) (s .at167)
+  pub at169 : s .at169 ≡ f .e
+  pub main : Slid (f .m3) (f .m2) 15 (s .main)
+  pub main168 : Slid (f .m1) (f .m) 55 (s .main168)
+  pub main167 : Slid (f .m1) (f .m) 54 (s .main167)
+  pub main169 : Slid (f .m1) (f .m) 56 (s .main169)
+
+spanned : (w : List ℕ) (t : ℕ) (f : Front) (s : Span) → SpanMade f s → Fronted w t f → Spanned w t s
+spanned w t f s h o =
+    let e-2 = on (hasEdge w) t 119 55 64 (f .e2) refl (o .e2) in
+    let e-1 = on (hasEdge w) t 183 55 128 (f .e1) refl (o .e1) in
+    let e-0 = on (hasEdge w) t 247 55 192 (f .e) refl (o .e) in
+    let z : t + 55 + 23 ≡ t + 78 = omega arith in
+    record {
+      due = subst (λ (b : ℕ). Holds (hasEdge w) b (s .due)) z (h .due .holds (hasEdge w) (t + 55) (o .e3) e-2);
+      at168 = subst (λ (b : ℕ). Holds (λ u. hasEdge w (u + 168)) b (s .at168)) z (h .at168 .holds (hasEdge w) (t + 55) e-1 e-0);
+      at167 = subst (λ (b : ℕ). Holds (λ u. hasEdge w (u + 167)) b (s .at167)) z (h .at167 .holds (hasEdge w) (t + 55) e-1 e-0);
+      at169 = subst (Holds (λ u. hasEdge w (u + 169)) (t + 78)) (sym (h .at169)) (shift (hasEdge w) (t + 78) 169 (f .e) (on (hasEdge w) t 247 78 169 (f .e) refl (o .e)));
+      main = slid (M w) t 64 78 1 15 (f .m3) (f .m2) (s .main) (omega arith) refl (h .main) (o .m3) (o .m2);
+      main168 = slid (M w) t 192 78 169 55 (f .m1) (f .m) (s .main168) (omega arith) refl (h .main168) (o .m1) (o .m);
+      main167 = slid (M w) t 192 78 168 54 (f .m1) (f .m) (s .main167) (omega arith) refl (h .main167) (o .m1) (o .m);
+      main169 = slid (M w) t 192 78 170 56 (f .m1) (f .m) (s .main169) (omega arith) refl (h .main169) (o .m1) (o .m);
+    }
+
+pub span-law : (f : Front) (s : Span) → SpanMade f s → SpanPost f s
+span-law f s h = record { result = λ F e. spanned (padded F) (length F) f s h (fronted F f e) }
+
+-- ---- values
+
+recent-at : (old : List ℕ) (t : ℕ) → t < length old → length old ≤ t + 256 → getD (recentOf old) (t + 256 - length old) 0 ≡ getD old t 0
+unfolding recentOf
+recent-at old t l m =
+    let n = length old in
+    let z : n + (t + 256 - n) ≡ length (replicate {A = ℕ} 256 0) + t = omega (arith, length-replicate {A = ℕ} 256 0) in
+    getD-drop n (replicate 256 0 ++ old) (t + 256 - n) 0
+    ∙ ap (λ (k : ℕ). getD (replicate 256 0 ++ old) k 0) z
+    ∙ getD-append-add (replicate 256 0) old t 0
+
+-- the value as the code finds it
+module _ (recent : List ℕ) (base : ℕ) (values : List ℕ) (t : ℕ) where
+  pub value-piece : base ≤ t → getD values (t - base) 0 ≡ valueOf recent base values t
+  unfolding valueOf
+  value-piece h = rw (le-leb base t h)
+
+  pub value-past : base ≤ t → length values ≤ t - base → 0 ≡ valueOf recent base values t
+  unfolding valueOf
+  value-past h l = rw (le-leb base t h) (sym (List·getD-eq-default values 0 {n = t - base} l))
+
+  pub value-lost : t < base → 256 < base - t → 0 ≡ valueOf recent base values t
+  unfolding valueOf
+  value-lost h l = rw (lt-leb base t h, lt-leb base (t + 256) (omega arith))
+
+  pub value-recent : t < base → base - t ≤ 256 → getD recent (256 - (base - t)) 0 ≡ valueOf recent base values t
+  unfolding valueOf
+  value-recent h l =
+      let z : 256 - (base - t) ≡ t + 256 - base = omega arith in
+      rw (lt-leb base t h, le-leb base (t + 256) (omega arith)) (ap (λ (k : ℕ). getD recent k 0) z)
+
+-- a value of the last 256 ticks before the piece, or of the piece, is that of the joined values
+pub value-law : (old values : List ℕ) (t : ℕ) → length old ≤ t + 256 → valueOf (recentOf old) (length old) values t ≡ getD (old ++ values) t 0
+unfolding valueOf
+value-law old values t h = go (leb (length old) t) refl
+  where
+    n : ℕ
+    n = length old
+
+    go : (b : Bool) → leb (length old) t ≡ b
+        → cond b (getD values (t - length old) 0) (cond (leb (length old) (t + 256)) (getD (recentOf old) (t + 256 - length old) 0) 0) ≡ getD (old ++ values) t 0
+    go true e =
+        let z : length old + (t - length old) ≡ t = omega (arith, leb-true (length old) t e) in
+        sym (getD-append-add old values (t - length old) 0) ∙ ap (λ (k : ℕ). getD (old ++ values) k 0) z
+    go false e =
+        let l = leb-false (length old) t e in
+        rw (le-leb (length old) (t + 256) h) (recent-at old t l h ∙ sym (List·getD-append old values 0 t l))
+
+more-values : (old values : List ℕ) → drop (length values) (recentOf old ++ values) ≡ recentOf (old ++ values)
+unfolding recentOf
+more-values old values =
+    let n = length old in
+    let zs = replicate {A = ℕ} 256 0 in
+    ap (drop (length values))
+    (sym (drop-append-le n (zs ++ old) values (omega (arith, length-append zs old))) ∙ ap (drop n) (append-assoc zs old values))
+    ∙ drop-drop (length values) n (zs ++ (old ++ values))
+    ∙ ap (λ (k : ℕ). drop k (zs ++ (old ++ values))) (sym (length-append old values))
+
+-- the values kept once the piece is taken
+pub keep-law : (recent values recent′ : List ℕ) → recent′ ≡ drop (length values) (recent ++ values) → KeepPost recent values recent′
+keep-law recent values recent′ e =
+    record { result = λ old q. e ∙ ap (λ (r : List ℕ). drop (length values) (r ++ values)) q ∙ more-values old values }
+
+-- ---- pulses and brackets as the code makes them
+
+pub pulse-same : (x i t v : ℕ) (b : Bool) → b ≡ bit x i → record { tick = record { 0 = t }; main = b; value = v } ≡ pulseIn x i t v
+pulse-same x i t v b e = λ j. record { tick = record { 0 = t }; main = e j; value = v }
+
+pub choose-is : (c a b : Bool) → ((c && a) || (not c && b)) ≡ cond c a b
+choose-is true true b = refl
+choose-is true false b = refl
+choose-is false a b = refl
+
+pub chosen : (a b x y z x′ y′ z′ w : Bool) → x ≡ x′ → y ≡ y′ → z ≡ z′ → w ≡ cond b y z → cond a x w ≡ cond a x′ (cond b y′ z′)
+chosen a b x y z x′ y′ z′ w p q r e = λ i. cond a (p i) ((e ∙ (λ j. cond b (q j) (r j))) i)
+
+module _ (s : Span) (i u : ℕ) (recent : List ℕ) (base : ℕ) (values : List ℕ) where
+  pub bracket-none : (a b c : Bool) → a ≡ bit (s .at168) i → b ≡ bit (s .at167) i → c ≡ bit (s .at169) i → (a || (b || c)) ≡ false → Without ≡ bracketIn s i u recent base values
+  unfolding bracketIn
+  bracket-none a b c ea eb ec off =
+      let bc = or-right a (b || c) off in
+      rw (sym ea ∙ or-left a (b || c) off, sym eb ∙ or-left b c bc, sym ec ∙ or-right b c bc)
+
+  pub bracket-there : (a b c main : Bool) (d v : ℕ) → a ≡ bit (s .at168) i → b ≡ bit (s .at167) i → c ≡ bit (s .at169) i → (a || (b || c)) ≡ true
+      → main ≡ cond a (bit (s .main168) i) (cond b (bit (s .main167) i) (bit (s .main169) i)) → d ≡ cond a 168 (cond b 167 169) → v ≡ valueOf recent base values (u + d + 1)
+      → With (record { tick = record { 0 = u + d }; main = main; value = v }) ≡ bracketIn s i u recent base values
+  unfolding bracketIn
+  bracket-there true b c main d v ea eb ec there em ed ev =
+      let z : u + d + 1 ≡ u + 169 = omega arith in
+      let q = ev ∙ ap (valueOf recent base values) z in
+      rw (sym ea) (λ j. With (record { tick = record { 0 = u + ed j }; main = em j; value = q j }))
+  bracket-there false true c main d v ea eb ec there em ed ev =
+      let z : u + d + 1 ≡ u + 168 = omega arith in
+      let q = ev ∙ ap (valueOf recent base values) z in
+      rw (sym ea, sym eb) (λ j. With (record { tick = record { 0 = u + ed j }; main = em j; value = q j }))
+  bracket-there false false true main d v ea eb ec there em ed ev =
+      let z : u + d + 1 ≡ u + 170 = omega arith in
+      let q = ev ∙ ap (valueOf recent base values) z in
+      rw (sym ea, sym eb, sym ec) (λ j. With (record { tick = record { 0 = u + ed j }; main = em j; value = q j }))
+  bracket-there false false false main d v ea eb ec there em ed ev = absurd (impossible (sym there))
+
+-- ---- the edge and the bracket at a tick of a span
+
+module _ (T : Trace) (s : Span) (t : ℕ) (sp : Spanned (padded (T .flags)) t s) (recent : List ℕ) (base : ℕ) (values : List ℕ) (rd : Reads T t recent base values)
+    (i u : ℕ) (li : i < 64) (lu : t + i ≡ u + 242) where
+  -- tick i of the span is tick u, padded
+  place : t + 78 + i ≡ u + 320
+  place = omega arith
+
+  pub span-stands : bit (s .due) i ≡ stands (edgeAt standard T u)
+  span-stands = sp .due .at i li ∙ ap (hasEdge (padded (T .flags))) place ∙ sym (stands-padded T u)
+
+  -- an edge d ticks later
+  later : (d x : ℕ) → Holds (λ k. hasEdge (padded (T .flags)) (k + d)) (t + 78) x → bit x i ≡ stands (edgeAt standard T (u + d))
+  later d x h =
+      let z : t + 78 + i + d ≡ u + d + 320 = omega (arith, place) in
+      h .at i li ∙ ap (hasEdge (padded (T .flags))) z ∙ sym (stands-padded T (u + d))
+
+  -- M of the tick after it
+  beam : (d x : ℕ) → Holds (λ k. M (padded (T .flags)) (k + (d + 1))) (t + 78) x → bit x i ≡ M (T .flags) (u + d + 1)
+  beam d x h =
+      let z : t + 78 + i + (d + 1) ≡ u + d + 1 + 320 = omega (arith, place) in
+      h .at i li ∙ ap (M (padded (T .flags))) z ∙ padded-M (T .flags) (u + d + 1)
+
+  -- the pulse d ticks later, d up to 169
+  pulse-later : (d x v : ℕ) → d ≤ 169 → Holds (λ k. M (padded (T .flags)) (k + (d + 1))) (t + 78) x → v ≡ u + d + 1
+      → pulseIn x i (u + d) (valueOf recent base values v) ≡ edgeAt standard T (u + d) .pulse
+  unfolding edgeAt
+  pulse-later d x v h m e =
+      let b = beam d x m in
+      let r = ap (valueOf recent base values) e ∙ rd .at (u + d + 1) (omega arith) (omega arith) in
+      λ j. record { tick = record { 0 = u + d }; main = b j; value = r j }
+
+  pub span-pulse : pulseIn (s .main) i u (valueOf recent base values (u + 1)) ≡ edgeAt standard T u .pulse
+  span-pulse =
+      let z : u + 0 ≡ u = omega arith in
+      subst (λ (k : ℕ). pulseIn (s .main) i k (valueOf recent base values (u + 1)) ≡ edgeAt standard T k .pulse) z
+      (pulse-later 0 (s .main) (u + 1) (omega arith) (sp .main) (omega arith))
+
+  pub span-bracket : bracketIn s i u recent base values ≡ bracketAt standard (edgeAt standard T) u
+  unfolding bracketIn bracketAt bracketOf
+  span-bracket =
+      rw
+      (later 168 (s .at168) (sp .at168), later 167 (s .at167) (sp .at167), later 169 (s .at169) (sp .at169), pulse-later 168 (s .main168) (u + 169) (omega arith) (sp .main168) (omega arith), pulse-later 167 (s .main167) (u + 168) (omega arith) (sp .main167) (omega arith), pulse-later 169 (s .main169) (u + 170) (omega arith) (sp .main169) (omega arith))

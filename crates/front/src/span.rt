@@ -1,0 +1,140 @@
+// The machine's view of 64 ticks u: words of the edges at u and at the three places of an F2, and of the M of each.
+ghost use Prim.Native.Nat.{ℕ, _+_, _<_, _≤_};
+ghost use mathlib.Core.Path.{_≡_};
+ghost use mathlib.Core.Bool.{_||_, cond};
+ghost use Rattle.edges.specs.Words.{bit};
+ghost use Rattle.front.specs.Post.{SpanPost, TopPost, pulseIn, bracketIn};
+use super::values::value_at;
+use super::words::Front;
+use edges::brackets::at167;
+use edges::brackets::at168;
+use edges::brackets::due;
+use edges::words::marked;
+use edges::words::slide;
+use rules::Bracket;
+use rules::Pulse;
+use rules::Tick;
+
+// The 64 ticks u that the machine can work, as words: edges at u, at u+168, at u+167 and at u+169, and the M of each.
+pub struct Span {
+    pub due: u64,
+    pub at168: u64,
+    pub at167: u64,
+    pub at169: u64,
+    pub main: u64,
+    pub main168: u64,
+    pub main167: u64,
+    pub main169: u64,
+}
+
+pub fn span_of(f: Front) -> Span
+    ensures { λ s. ⌜ SpanPost f s ⌝ }
+{
+    let u = due(f.e2, f.e3);
+    let u168 = at168(f.e, f.e1);
+    let u167 = at167(f.e, f.e1);
+    let main = slide(f.m3, f.m2, 15);
+    let main168 = slide(f.m1, f.m, 55);
+    let main167 = slide(f.m1, f.m, 54);
+    let main169 = slide(f.m1, f.m, 56);
+    Span {
+        due: u,
+        at168: u168,
+        at167: u167,
+        at169: f.e,
+        main,
+        main168,
+        main167,
+        main169,
+    }
+}
+
+// The bits of the last r ticks.
+pub fn top(x: u64, r: u32) -> u64
+    requires { ⌜ (0 < r) × (r ≤ 64) ⌝ }
+    ensures { λ y. ⌜ TopPost x r y ⌝ }
+{
+    (x >> (64 - r)) << (64 - r)
+}
+
+// The pulse at tick t, whose M is bit i of x.
+pub fn pulse_at(x: u64, i: u32, t: u32, value: u8) -> Pulse
+    requires { ⌜ i < 64 ⌝ }
+    ensures { λ r. ⌜ r ≡ pulseIn x i t value ⌝ }
+{
+    let main = marked(x, i);
+    Pulse {
+        tick: Tick(t),
+        main,
+        value,
+    }
+}
+
+// A bracket stands at the i-th tick of the span, if an edge does.
+pub fn framed(s: Span, i: u32) -> bool
+    requires { ⌜ i < 64 ⌝ }
+    ensures { λ r. ⌜ r ≡ (bit (s .at168) i || (bit (s .at167) i || bit (s .at169) i)) ⌝ }
+{
+    let a = marked(s.at168, i);
+    let b = marked(s.at167, i);
+    let c = marked(s.at169, i);
+    a | (b | c)
+}
+
+// One of two truth values.
+fn choose(c: bool, a: bool, b: bool) -> bool
+    ensures { λ r. ⌜ r ≡ cond c a b ⌝ }
+{
+    (c & a) | (!c & b)
+}
+
+// How far behind an edge its F2 stands: 168 ticks, else 167, else 169.
+fn apart(at168: bool, at167: bool) -> u32
+    ensures is { λ d. ⌜ d ≡ cond at168 168 (cond at167 167 169) ⌝ }
+    ensures most { λ d. ⌜ d ≤ 169 ⌝ }
+{
+    if at168 {
+        return 168;
+    }
+    if at167 {
+        return 167;
+    }
+    169
+}
+
+// The bracket at tick u, the i-th of the span.
+pub fn bracket_at(s: Span, i: u32, u: u32, recent: &[u8; 256], base: u32, values: &[u8]) -> Bracket
+    requires { ⌜ (i < 64) × (u < 65536) ⌝ }
+    ensures { λ r. ⌜ r ≡ bracketIn s i u (now (recent .entry)) base (now (values .entry)) ⌝ }
+{
+    let a = marked(s.at168, i);
+    let b = marked(s.at167, i);
+    let c = marked(s.at169, i);
+    if !(a | (b | c)) {
+        return Bracket::Without;
+    }
+    let x = marked(s.main168, i);
+    let y = marked(s.main167, i);
+    let z = marked(s.main169, i);
+    let main = choose(a, x, choose(b, y, z));
+    let d = apart(a, b);
+    let value = value_at(recent, base, values, u + d + 1);
+    let f = Pulse {
+        tick: Tick(u + d),
+        main,
+        value,
+    };
+    Bracket::With(f)
+}
+
+// The tick of the i-th place of the span, once t ticks are taken.
+pub fn tick_of(t: u32, i: u32) -> u32
+    requires { ⌜ (i < 64) × (t < 65000) ⌝ }
+    ensures below { λ u. ⌜ u < 65536 ⌝ }
+    ensures tick { λ u. ⌜ ((v : ℕ) → t + i ≡ v + 242 → u ≡ v) ⌝ }
+{
+    if t + i < 242 {
+        return 0;
+    }
+    t + i - 242
+}

@@ -1,0 +1,5 @@
+pub mod Visiting
+pub mod Working
+pub mod BlockLaws
+pub mod Staying
+pub mod Streaming

@@ -1,0 +1,359 @@
+-- A piece, block by block, and the zeros past the end. What each block hands out comes behind what the blocks before it did.
+use Prim.Native.Nat.{ℕ, zero, suc, _+_, _-_, _*_, _/_, _≤_, _<_}
+use native.Mathlib.Omega.{arith}
+use mathlib.Core.Path.{_≡_, refl, sym, ap, ap₂, _∙_, subst}
+use mathlib.Core.Bool.{Bool, true, false}
+use mathlib.Core.List.{List, [], _∷_, _++_, append-nil}
+use lib.ListN.{length, getD, take, drop, replicate, length-append, length-take, length-drop, length-replicate, replicate-append-replicate}
+use lib.Seq.{getD-take, getD-drop, take-add, take-all, take-append-add, length-take-le}
+use lib.Ieee.{Float}
+use Rattle.rules.specs.declared.Reply.{Reply}
+use Rattle.rules.specs.Settings.{standard}
+use Rattle.rules.specs.Lists.{All}
+use Rattle.rules.specs.Samples.{Trace, _⧺_, A, P, N, M, odd}
+use Rattle.rules.specs.Edges.{stands, edgeAt}
+use Rattle.rules.specs.Records.{records}
+use Rattle.rules.specs.Calls.{fresh, rest, handed, silence}
+use Rattle.rules.proofs.ListLaws.{all-append}
+use Rattle.rules.proofs.Apart.{edge-end}
+use Rattle.rules.proofs.Joining.{append-same, fresh-join, handed-fresh}
+use Rattle.rules.proofs.HandingOut.{fresh-most, rest-most}
+use Rattle.rules.proofs.PastEnd.{zeros-alike, edge-silence, rest-silence}
+use Rattle.edges.specs.declared.packing.Planes.{Planes}
+use Rattle.edges.specs.Words.{Holds, HoldsPart}
+use Rattle.edges.specs.Packing.{Packed, PackedPart}
+use Rattle.edges.specs.Flags.{BareBlock}
+use Rattle.edges.proofs.packing.FlagBits.{A-bit, P-bit, N-bit, M-bit}
+use Rattle.edges.proofs.BitLaws.{zero-bit, bit-above}
+use Rattle.rules.specs.Buffers.{over-at}
+use Rattle.machine.specs.Places.{machineOf}
+use Rattle.rules.specs.declared.Places.{Places}
+use Rattle.lanes.specs.Columns.{Rows, Sized, placesOf}
+use Rattle.lanes.specs.Post.{LoadPost}
+use Rattle.pieces.specs.declared.blocks.Run.{Run}
+use Rattle.pieces.specs.declared.blocks.Stand.{Stand}
+use Rattle.front.specs.Words.{frontOf}
+use Rattle.front.specs.Post.{Low, Reads, valueOf}
+use Rattle.pieces.specs.Steps.{stateAt, Bounded, Fed, runOf, FedColumns, BlockPost, upTo, Enters, Begins, BlocksPost, ColumnsPost, RunPost, FeedPost, Ends, DrainPost}
+use Rattle.rules.proofs.Answers.{standard-allowed, join-nothing}
+use Rattle.front.proofs.Spans.{value-law}
+use Rattle.pieces.proofs.Working.{over-nil, loaded}
+
+abbrev nothing : Trace
+nothing = record { flags = []; values = [] }
+
+-- nothing taken, nothing handed out
+fresh-nothing : (T : Trace) → length (T .flags) ≡ length (T .values) → fresh standard T nothing ≡ []
+fresh-nothing T a =
+    append-same (handed standard T) (fresh standard T nothing) []
+    (sym (handed-fresh standard standard-allowed T nothing a) ∙ ap (handed standard) (join-nothing T) ∙ sym (append-nil (handed standard T)))
+
+fed-nothing : (T : Trace) (o : Run) (b : List ℕ) → length (T .flags) ≡ length (T .values) → o .front ≡ frontOf (T .flags) → o .machine ≡ machineOf (stateAt T (length (T .flags) - 178))
+    → o .at ≡ 0 → Fed T nothing b o b
+fed-nothing T o b a f m p =
+    let e = fresh-nothing T a in
+    record {
+      front = f ∙ ap frontOf (sym (append-nil (T .flags)));
+      machine =
+          m
+          ∙ ap (λ (n : ℕ). machineOf (stateAt T (n - 178))) (ap length (sym (append-nil (T .flags))))
+          ∙ ap (λ (R : Trace). machineOf (stateAt R (length (T .flags ++ []) - 178))) (sym (join-nothing T));
+      place = p ∙ ap (λ (l : List Reply). 18 * length l) (sym e);
+      buffer = sym (ap (λ (l : List Reply). over-at (records l) 0 b) e ∙ over-nil 0 b);
+    }
+
+-- ---- a piece
+
+all-take : (n : ℕ) (l : List ℕ) → All (λ v. v ≤ 255) l → All (λ v. v ≤ 255) (take n l)
+all-take zero l h = tt
+all-take (suc n) [] h = tt
+all-take (suc n) (x ∷ l) h = (h .0, all-take n l (h .1))
+
+-- 64 ticks are a whole word
+whole-word : (F : ℕ → Bool) (o x : ℕ) → Holds F o x → HoldsPart F o 64 x
+whole-word F o x h = record { below = h .below; at = h .at; rest = λ i l. bit-above x 64 i (h .below) l }
+
+pub packed-all : (flags : List ℕ) (o r : ℕ) (x : Planes) → r ≡ 64 → Packed flags o x → PackedPart flags o r x
+packed-all flags o r x e h =
+    subst (λ (n : ℕ). PackedPart flags o n x) (sym e)
+    (record { a = whole-word (A flags) o (x .a) (h .a); p = whole-word (P flags) o (x .p) (h .p); n = whole-word (N flags) o (x .n) (h .n); m = whole-word (M flags) o (x .m) (h .m) })
+
+-- 64 ticks without flags
+pub packed-bare : (flags : List ℕ) (o r : ℕ) → r ≡ 64 → (b : Bool) → BareBlock flags o b → b ≡ true → PackedPart flags o r (record { a = 0; p = 0; n = 0; m = 0 })
+packed-bare flags o r e b h t =
+    subst (λ (n : ℕ). PackedPart flags o n (record { a = 0; p = 0; n = 0; m = 0 })) (sym e)
+    (record {
+      a = none (A flags) (λ i l. sym (A-bit flags (o + i)) ∙ h .yes t i 0 l (omega arith));
+      p = none (P flags) (λ i l. sym (P-bit flags (o + i)) ∙ h .yes t i 1 l (omega arith));
+      n = none (N flags) (λ i l. sym (N-bit flags (o + i)) ∙ h .yes t i 2 l (omega arith));
+      m = none (M flags) (λ i l. sym (M-bit flags (o + i)) ∙ h .yes t i 3 l (omega arith));
+    })
+  where
+    none : (F : ℕ → Bool) → ((i : ℕ) → i < 64 → F (o + i) ≡ false) → HoldsPart F o 64 0
+    none F f = record { below = omega arith; at = λ i l. zero-bit i ∙ sym (f i l); rest = λ i l. zero-bit i }
+
+-- the next r
+abbrev block : List ℕ → List ℕ → ℕ → ℕ → Trace
+block flags values n r = record { flags = take r (drop n flags); values = take r (drop n values) }
+
+up-to-more : (flags values : List ℕ) (n r : ℕ) → upTo flags values n ⧺ block flags values n r ≡ upTo flags values (n + r)
+up-to-more flags values n r =
+    let f = sym (take-add n r flags) in
+    let v = sym (take-add n r values) in
+    λ i. record { flags = f i; values = v i }
+
+-- flags of bytes that are the same
+flag-A : (F G : List ℕ) (j k : ℕ) → getD F j 0 ≡ getD G k 0 → A F j ≡ A G k
+unfolding A
+flag-A F G j k e = ap odd e
+
+flag-P : (F G : List ℕ) (j k : ℕ) → getD F j 0 ≡ getD G k 0 → P F j ≡ P G k
+unfolding P
+flag-P F G j k e = ap (λ (x : ℕ). odd (x / 2)) e
+
+flag-N : (F G : List ℕ) (j k : ℕ) → getD F j 0 ≡ getD G k 0 → N F j ≡ N G k
+unfolding N
+flag-N F G j k e = ap (λ (x : ℕ). odd (x / 4)) e
+
+flag-M : (F G : List ℕ) (j k : ℕ) → getD F j 0 ≡ getD G k 0 → M F j ≡ M G k
+unfolding M
+flag-M F G j k e = ap (λ (x : ℕ). odd (x / 8)) e
+
+-- the planes of the next r ticks
+low-block : (flags values : List ℕ) (n r : ℕ) (x : Planes) → n + r ≤ length flags → PackedPart flags n r x → Low (block flags values n r .flags) x
+low-block flags values n r x h p =
+    record {
+      a = λ m l. p .a .at m (short m l) ∙ flag-A flags G (n + m) m (at m (short m l));
+      p = λ m l. p .p .at m (short m l) ∙ flag-P flags G (n + m) m (at m (short m l));
+      n = λ m l. p .n .at m (short m l) ∙ flag-N flags G (n + m) m (at m (short m l));
+      m = λ m l. p .m .at m (short m l) ∙ flag-M flags G (n + m) m (at m (short m l));
+    }
+  where
+    G : List ℕ
+    G = take r (drop n flags)
+
+    short : (m : ℕ) → m < length G → m < r
+    short m l = omega (arith, l, length-take r (drop n flags))
+
+    at : (m : ℕ) → m < r → getD flags (n + m) 0 ≡ getD G m 0
+    at m l = sym (getD-take r (drop n flags) m 0 l ∙ getD-drop n flags m 0)
+
+-- ---- what the next block is to the piece
+
+module _ (T : Trace) (o : Run) (recent : List ℕ) (base : ℕ) (flags values b₀ : List ℕ) (g : Begins T o recent base flags values b₀) where
+  -- the trace up to tick n of the piece
+  bounded : (n : ℕ) → n ≤ length flags → Bounded (T ⧺ upTo flags values n)
+  bounded n h =
+      record {
+        bytes = all-append (λ v. v ≤ 255) (T .values) (take n values) (g .bytes) (all-take n values (g .bytes-piece));
+        edges =
+            λ u st. omega (arith, edge-end standard standard-allowed (T ⧺ upTo flags values n) u st, length-append (T .flags) (take n flags), length-take n flags, g .ticks, g .limit);
+      }
+
+  reads : (n : ℕ) → n ≤ length flags → Reads (T ⧺ upTo flags values n) (base + n) recent base values
+  reads n h =
+      record {
+        at =
+            λ k l m.
+            let old = T .values in
+            let e : base ≡ length old = omega (arith, g .ticks, g .alike) in
+            let z : length old + n ≡ base + n = omega arith in
+            ap₂ (λ (r : List ℕ) (c : ℕ). valueOf r c values k) (g .kept) e
+            ∙ value-law old values k (omega arith)
+            ∙ sym (getD-take (length old + n) (old ++ values) k 0 (omega arith))
+            ∙ ap (λ (l : List ℕ). getD l k 0) (take-append-add old values n);
+      }
+
+  room : (n : ℕ) → n ≤ length flags → 18 * length (fresh standard T (upTo flags values n)) ≤ length b₀
+  room n h =
+      let e = length-take-le n flags h in
+      omega (arith, fresh-most standard T (upTo flags values n), e, g .room)
+
+  pub enters-piece : Enters T o recent base flags values b₀
+  enters-piece =
+      record {
+        front = g .front;
+        machine = g .machine;
+        place = g .place;
+        ticks = g .ticks;
+        alike = g .alike;
+        alike-piece = g .alike-piece;
+        bounded = bounded;
+        reads = reads;
+        room = room;
+      }
+
+-- ---- the loop over a piece, with the places as columns
+
+module _ (x₀ : Rows) (o : Stand) (recent : List ℕ) (base : ℕ) (flags values b₀ : List ℕ) where
+  -- i ticks of the piece are through
+  pub record Feeding (b : List ℕ) (x : Rows) (y : Stand) (i : ℕ) : Type 0 where
+    pub same : length b ≡ length b₀
+    pub most : i ≤ length flags
+    pub state : Sized x₀ → (T : Trace) → Enters T (runOf x₀ o) recent base flags values b₀ → FedColumns T (upTo flags values i) b₀ x y b
+
+  pub feed-start : Feeding b₀ x₀ o 0
+  feed-start =
+      record {
+        same = refl;
+        most = omega arith;
+        state = λ z T g. record { fed = fed-nothing T (runOf x₀ o) b₀ (g .alike) (g .front) (g .machine) (g .place); sized = z };
+      }
+
+  pub feed-next : (b : List ℕ) (x : Rows) (y : Stand) (i r t : ℕ) (p : Planes) (x′ : Rows) (z : Stand) (b′ : List ℕ) → i + r ≤ length flags → t ≡ base + (i + r) → PackedPart flags i r p
+      → BlockPost x y p r t recent base values b x′ z b′ → Feeding b x y i → Feeding b′ x′ z (i + r)
+  feed-next b x y i r t p x′ z b′ h e k post f =
+      record {
+        same = post .same ∙ f .same;
+        most = h;
+        state =
+            λ sz T g.
+            let n = i + r in
+            let P = upTo flags values i in
+            let Q = block flags values i r in
+            let lf = length-take-le i flags (omega arith) in
+            let lv = length-take-le i values (omega (arith, g .alike-piece)) in
+            let lq : length (take r (drop i flags)) ≡ r = length-take-le r (drop i flags) (omega (arith, length-drop i flags)) in
+            let m = up-to-more flags values i r in
+            subst (λ (R : Trace). FedColumns T R b₀ x′ z b′) m
+            (post .result T P Q b₀ (f .state sz T g) lq (low-block flags values i r p h k)
+            (record {
+              alike = g .alike;
+              alike-piece = lf ∙ sym lv;
+              ticks = omega (arith, g .ticks, lf, lq, e);
+              bounded = subst (λ (R : Trace). Bounded (T ⧺ R)) (sym m) (g .bounded n h);
+              reads =
+                  subst (λ (R : Trace). Reads (T ⧺ R) t recent base values) (sym m)
+                  (subst (λ (c : ℕ). Reads (T ⧺ upTo flags values n) c recent base values) (sym e) (g .reads n h));
+              room = subst (λ (R : Trace). 18 * length (fresh standard T R) ≤ length b₀) (sym m) (g .room n h);
+              same = f .same;
+            }));
+      }
+
+  pub feed-end : (b : List ℕ) (x : Rows) (y : Stand) (i : ℕ) → length flags ≤ i → Feeding b x y i → BlocksPost x₀ o recent base flags values b₀ x y b
+  feed-end b x y i h f =
+      record {
+        same = f .same;
+        result =
+            λ sz T g.
+            let a = take-all i flags h in
+            let v = take-all i values (omega (arith, g .alike-piece)) in
+            let e : upTo flags values i ≡ record { flags = flags; values = values } = λ j. record { flags = a j; values = v j } in
+            subst (λ (R : Trace). FedColumns T R b₀ x y b) e (f .state sz T g);
+      }
+
+  -- a piece that would pass the limit
+  pub columns-over : 32768 < base + length flags → ColumnsPost x₀ o recent base flags values b₀ x₀ o b₀
+  columns-over h = record { same = refl; result = λ z T g. absurd (omega (arith, g .limit)) }
+
+  pub columns-law : (x : Rows) (y : Stand) (b : List ℕ) → BlocksPost x₀ o recent base flags values b₀ x y b → ColumnsPost x₀ o recent base flags values b₀ x y b
+  columns-law x y b h = record { same = h .same; result = λ z T g. h .result z T (enters-piece T (runOf x₀ o) recent base flags values b₀ g) }
+
+-- ---- the places become columns and then places again
+
+pub run-law : (o : Run) (recent : List ℕ) (base : ℕ) (flags values b : List ℕ) (f n w : List ℕ) (v : List Float) (on f′ n′ w′ : List ℕ) (v′ : List Float) (x : Rows) (y : Stand) (b′ : List ℕ) {g : Places}
+    → base + length flags < 65000 → Sized (record { f1 = f; marks = n; row = w; level = v; on = on }) → LoadPost f n w v (o .machine .places) f′ n′ w′ v′
+    → BlocksPost (record { f1 = f′; marks = n′; row = w′; level = v′; on = on }) (record { front = o .front; counts = o .machine .counts; at = o .at }) recent base flags values b x y b′
+    → g ≡ placesOf x → RunPost o recent base flags values b (record { front = y .front; machine = record { places = g; counts = y .counts }; at = y .at }) b′
+run-law o recent base flags values b f n w v on f′ n′ w′ v′ x y b′ {g} lt z load post is =
+    record {
+      same = post .same;
+      result = λ T e.
+          let x₀ : Rows = record { f1 = f′; marks = n′; row = w′; level = v′; on = on } in
+          let l = loaded (o .machine) T (length (T .flags) - 178) (omega (arith, e .ticks)) (e .machine) f n w v f′ n′ w′ v′ on load z in
+          let p = l .places in
+          let k = post .result (l .sized) T
+          (record {
+            front = e .front;
+            machine = (λ i. record { places = p i; counts = o .machine .counts }) ∙ e .machine;
+            place = e .place;
+            ticks = e .ticks;
+            alike = e .alike;
+            alike-piece = e .alike-piece;
+            bounded = e .bounded;
+            reads = e .reads;
+            room = e .room;
+          }) in
+          subst (λ (q : Places). Fed T (record { flags = flags; values = values }) b (record { front = y .front; machine = record { places = q; counts = y .counts }; at = y .at }) b′) (sym is) (k .fed);
+    }
+
+-- a piece that would pass the limit
+pub feed-over : (o : Run) (recent : List ℕ) (base : ℕ) (flags values b : List ℕ) → 32768 < base + length flags → FeedPost o recent base flags values b o b
+feed-over o recent base flags values b h = record { same = refl; result = λ T g. absurd (omega (arith, g .limit)) }
+
+pub feed-law : (o : Run) (recent : List ℕ) (base : ℕ) (flags values b : List ℕ) (y : Run) (b′ : List ℕ) → RunPost o recent base flags values b y b′ → FeedPost o recent base flags values b y b′
+feed-law o recent base flags values b y b′ h = record { same = h .same; result = λ T g. h .result T (enters-piece T o recent base flags values b g) }
+
+-- ---- the ticks past the end
+
+silence-more : (m n : ℕ) → silence m ⧺ silence n ≡ silence (m + n)
+silence-more m n = let z = replicate-append-replicate {A = ℕ} m n 0 in λ i. record { flags = z i; values = z i }
+
+take-zeros : (n k : ℕ) → n ≤ k → take n (replicate {A = ℕ} k 0) ≡ replicate n 0
+take-zeros zero k h = refl
+take-zeros (suc n) zero h = absurd (omega arith)
+take-zeros (suc n) (suc k) h = ap {B = List ℕ} (λ l. 0 ∷ l) (take-zeros n k (omega arith))
+
+-- the first n of the zeros
+zeros-up-to : (n k : ℕ) → n ≤ k → upTo (replicate k 0) (replicate k 0) n ≡ silence n
+zeros-up-to n k h = let z = take-zeros n k h in λ i. record { flags = z i; values = z i }
+
+module _ (T : Trace) (o : Run) (recent : List ℕ) (base : ℕ) (b₀ : List ℕ) (g : Ends T o recent base b₀) where
+  all-zero : (n : ℕ) → All (λ v. v ≤ 255) (replicate n 0)
+  all-zero zero = tt
+  all-zero (suc n) = (omega arith, all-zero n)
+
+  bounded-silence : (n : ℕ) → Bounded (T ⧺ silence n)
+  bounded-silence n =
+      record {
+        bytes = all-append (λ v. v ≤ 255) (T .values) (replicate n 0) (g .bytes) (all-zero n);
+        edges =
+            λ u st.
+            let e : stands (edgeAt standard T u) ≡ true = ap stands (sym (edge-silence standard T n u)) ∙ st in
+            omega (arith, edge-end standard standard-allowed T u e, g .ticks, g .limit);
+      }
+
+  reads-silence : (n : ℕ) → n ≤ 448 → Reads (T ⧺ silence n) (base + n) recent base (replicate 448 0)
+  reads-silence n h =
+      record {
+        at =
+            λ k l m.
+            let old = T .values in
+            let e : base ≡ length old = omega (arith, g .ticks, g .alike) in
+            ap₂ (λ (r : List ℕ) (c : ℕ). valueOf r c (replicate 448 0) k) (g .kept) e
+            ∙ value-law old (replicate 448 0) k (omega arith)
+            ∙ zeros-alike old 448 k
+            ∙ sym (zeros-alike old n k);
+      }
+
+  -- what n zeros hand out is a beginning of what is left
+  room-silence : (n : ℕ) → n ≤ 448 → 18 * length (fresh standard T (silence n)) ≤ length b₀
+  room-silence n h =
+      let k = 448 - n in
+      let z : n + k ≡ 448 = omega arith in
+      let a : length (replicate {A = ℕ} n 0) ≡ length (replicate {A = ℕ} n 0) = refl in
+      let e = fresh-join standard standard-allowed T (silence n) (silence k) (g .alike) a in
+      let w = ap (fresh standard T) (silence-more n k ∙ ap silence z) in
+      let f = rest-silence standard standard-allowed T 448 (omega arith) in
+      let q = ap length (sym e ∙ w ∙ f) in
+      omega (arith, q, length-append (fresh standard T (silence n)) (fresh standard (T ⧺ silence n) (silence k)), rest-most standard standard-allowed T, g .room)
+
+  enters-silence : Enters T o recent base (replicate 448 0) (replicate 448 0) b₀
+  enters-silence =
+      record {
+        front = g .front;
+        machine = g .machine;
+        place = g .place;
+        ticks = g .ticks;
+        alike = g .alike;
+        alike-piece = refl;
+        bounded = λ n h. subst (λ (R : Trace). Bounded (T ⧺ R)) (sym (zeros-up-to n 448 (most n h))) (bounded-silence n);
+        reads = λ n h. subst (λ (R : Trace). Reads (T ⧺ R) (base + n) recent base (replicate 448 0)) (sym (zeros-up-to n 448 (most n h))) (reads-silence n (most n h));
+        room = λ n h. subst (λ (R : Trace). 18 * length (fresh standard T R) ≤ length b₀) (sym (zeros-up-to n 448 (most n h))) (room-silence n (most n h));
+      }
+    where
+      most : (n : ℕ) → n ≤ length (replicate {A = ℕ} 448 0) → n ≤ 448
+      most n h = omega (arith, length-replicate {A = ℕ} 448 0)
+
+pub drain-law : (o : Run) (recent : List ℕ) (base : ℕ) (b : List ℕ) (y : Run) (b′ : List ℕ) → RunPost o recent base (replicate 448 0) (replicate 448 0) b y b′ → DrainPost o recent base b y b′
+drain-law o recent base b y b′ h = record { same = h .same; result = λ T g. h .result T (enters-silence T o recent base b g) }
