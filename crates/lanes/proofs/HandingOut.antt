@@ -21,9 +21,10 @@ use Rattle.rules.proofs.Joining.{records-append, records-length}
 use Rattle.machine.specs.Places.{test, placed}
 use Rattle.records.specs.Post.{dueSlot, HandedPost, InOrder}
 use Rattle.records.proofs.Handing.{all-open}
-use Rattle.lanes.specs.Columns.{Rows, Sized, none, placeIn, placesOf}
-use Rattle.lanes.specs.Post.{DropPost, Kept, Handed, HandPost}
-use Rattle.lanes.proofs.Holding.{Holding, holds-places, places-hold, drop-holds, drop-kept, kept-same, kept-more, some, some-f1, by-f1}
+use Rattle.columns.specs.Columns.{Rows, Sized, none, placeIn, placesOf}
+use Rattle.columns.specs.Post.{DropPost, Kept}
+use Rattle.lanes.specs.Post.{Handed, HandPost}
+use Rattle.columns.proofs.Holding.{Holding, holds-places, places-hold, drop-holds, drop-kept, kept-same, kept-more, some, some-f1, by-f1}
 
 -- ---- the test of the first column
 

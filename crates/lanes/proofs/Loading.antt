@@ -8,10 +8,11 @@ use lib.ListN.{length, getD, set, length-set}
 use lib.Seq.{getD-set-same, getD-set-other}
 use lib.Ieee.{Float}
 use Rattle.rules.specs.declared.Places.{Places}
-use Rattle.lanes.specs.Columns.{placesIn, columnAt}
-use Rattle.lanes.specs.Masks.{CoverMask, PhantomMask, Masked, PutMasks, MaskPost}
-use Rattle.lanes.specs.Post.{PutPost, LoadPost, MasksPost}
-use Rattle.lanes.proofs.Holding.{masked-column}
+use Rattle.columns.specs.Columns.{placesIn, columnAt}
+use Rattle.columns.specs.Masks.{CoverMask, PhantomMask, Masked, PutMasks, MaskPost}
+use Rattle.columns.specs.Post.{PutPost}
+use Rattle.lanes.specs.Post.{LoadPost, MasksPost}
+use Rattle.columns.proofs.Holding.{masked-column}
 
 pub put-masks-law : (f m on : List ℕ) (j t x y : ℕ) → j < 4 → CoverMask (getD f j 0) t x → PhantomMask (getD f j 0) (eqb (getD m j 0 % 2) 1) t y
     → MaskPost f m on j t (set (set on j x) (4 + j) y)

@@ -1,3 +1,1 @@
-pub mod Columns
-pub mod Masks
 pub mod Post

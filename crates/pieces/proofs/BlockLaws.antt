@@ -13,7 +13,7 @@ use Rattle.rules.specs.Records.{records}
 use Rattle.rules.specs.Calls.{fresh}
 use Rattle.rules.proofs.Joining.{assoc, fresh-join, handed-fresh, handed-done, after-known, records-append, records-length}
 use Rattle.machine.specs.Places.{machineOf}
-use Rattle.lanes.specs.Columns.{Rows, Sized, machineAt}
+use Rattle.columns.specs.Columns.{Rows, Sized, machineAt}
 use Rattle.rules.specs.Buffers.{over-at}
 use Rattle.rules.proofs.Buffers.{over-at-more}
 use Rattle.edges.specs.declared.packing.Planes.{Planes}

@@ -11,7 +11,7 @@ use Rattle.rules.specs.declared.Machine.{Machine}
 use Rattle.rules.specs.declared.Counts.{Counts}
 use Rattle.rules.specs.Replies.{ended}
 use Rattle.machine.specs.Places.{test, placed, machineOf}
-use Rattle.lanes.specs.Columns.{Rows, none, marksOf, wordAt, referenceAt, placeIn, placesIn, machineAt}
+use Rattle.columns.specs.Columns.{Rows, none, marksOf, wordAt, referenceAt, placeIn, placesIn, machineAt}
 use Rattle.rules.specs.declared.Reply.{Reply}
 use Rattle.rules.specs.Records.{records}
 use Rattle.rules.specs.Buffers.{over-at}

@@ -28,7 +28,7 @@ use Rattle.edges.proofs.BitLaws.{zero-bit, bit-above}
 use Rattle.rules.specs.Buffers.{over-at}
 use Rattle.machine.specs.Places.{machineOf}
 use Rattle.rules.specs.declared.Places.{Places}
-use Rattle.lanes.specs.Columns.{Rows, Sized, placesOf}
+use Rattle.columns.specs.Columns.{Rows, Sized, placesOf}
 use Rattle.lanes.specs.Post.{LoadPost}
 use Rattle.pieces.specs.declared.blocks.Run.{Run}
 use Rattle.pieces.specs.declared.blocks.Stand.{Stand}

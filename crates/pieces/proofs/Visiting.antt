@@ -32,12 +32,14 @@ use Rattle.machine.specs.Post.{Small, f2Value, Fits, EdgePost}
 use Rattle.records.specs.Post.{Queue}
 use Rattle.records.proofs.Handing.{ordered-queue}
 use Rattle.edges.specs.Words.{bit}
-use Rattle.lanes.specs.Columns.{Rows, Sized, placesOf, machineAt}
-use Rattle.lanes.specs.Masks.{AllMasked}
-use Rattle.lanes.specs.Post.{HandPost, f2Tick, BracketPost, DealPost}
-use Rattle.lanes.proofs.Holding.{masked-rows}
-use Rattle.lanes.proofs.Framing.{bracket-none as no-bracket}
-use Rattle.lanes.proofs.Dealing.{deal-none}
+use Rattle.columns.specs.Columns.{Rows, Sized, placesOf, machineAt}
+use Rattle.columns.specs.Masks.{AllMasked}
+use Rattle.lanes.specs.Post.{HandPost}
+use Rattle.brackets.specs.Post.{f2Tick, BracketPost}
+use Rattle.hearing.specs.Post.{DealPost}
+use Rattle.columns.proofs.Holding.{masked-rows}
+use Rattle.brackets.proofs.Framing.{bracket-none as no-bracket}
+use Rattle.hearing.proofs.Dealing.{deal-none}
 use Rattle.front.specs.declared.span.Span.{Span}
 use Rattle.pieces.specs.Steps.{stateAt, Bounded, Shows, Went, VisitPost}
 use Rattle.front.specs.Post.{valueOf, pulseIn, bracketIn}

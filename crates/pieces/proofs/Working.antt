@@ -28,8 +28,8 @@ use Rattle.rules.proofs.Skipping.{skip-to, done-grows, visit-done, skip-done}
 use Rattle.machine.specs.Places.{placeAt, placed, machineOf}
 use Rattle.rules.specs.Buffers.{over-at}
 use Rattle.records.specs.Post.{Queue}
-use Rattle.lanes.specs.Columns.{Rows, Sized, none, machineAt, FitsPlace}
-use Rattle.lanes.specs.Masks.{AllMasked}
+use Rattle.columns.specs.Columns.{Rows, Sized, none, machineAt, FitsPlace}
+use Rattle.columns.specs.Masks.{AllMasked}
 use Rattle.lanes.specs.Post.{HandPost, Loaded, LoadPost, MasksPost}
 use Rattle.rules.proofs.Buffers.{over-at-more, over-at-nil}
 use Rattle.edges.specs.Words.{bit, Lowest, WithoutLowest}

@@ -17,8 +17,8 @@ use Rattle.rules.specs.Records.{records}
 use Rattle.rules.specs.Calls.{fresh, silence, takeRoom, closeRoom}
 use Rattle.rules.specs.declared.Counts.{Counts}
 use Rattle.machine.specs.Places.{machineOf}
-use Rattle.lanes.specs.Columns.{Rows, Sized, machineAt}
-use Rattle.lanes.specs.Masks.{AllMasked}
+use Rattle.columns.specs.Columns.{Rows, Sized, machineAt}
+use Rattle.columns.specs.Masks.{AllMasked}
 use Rattle.lanes.specs.Post.{HandPost}
 use Rattle.rules.specs.Buffers.{over-at}
 use Rattle.edges.specs.declared.packing.Planes.{Planes}

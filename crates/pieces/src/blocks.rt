@@ -3,6 +3,7 @@ ghost use Prim.Native.Nat.{_<_, _≤_};
 ghost use mathlib.Core.Path.{_≡_};
 ghost use mathlib.Core.Bool.{true};
 ghost use Rattle.pieces.specs.Steps.{VisitPost, LatePost, WorkPost, bare, Waits, Stays, BlockPost};
+use brackets::bracket;
 use edges::packing::Planes;
 use edges::words::lowest;
 use edges::words::without_lowest;
@@ -17,8 +18,11 @@ use front::values::value_at;
 use front::words::Front;
 use front::words::advance;
 use front::words::is_still;
-use lanes::steps;
-use lanes::steps::mask;
+use hearing::any_on;
+use hearing::deal;
+use lanes::hand_out;
+use lanes::mask;
+use lanes::retire;
 use replies::ended;
 use rules::Counts;
 use rules::Machine;
@@ -64,15 +68,15 @@ fn visit(
     ensures { λ x. ⌜ VisitPost (record { f1 = now (f1 .entry); marks = now (marks .entry); row = now (row .entry); level = now (level .entry); on = now (on .entry) }) c s i t (now (recent .entry)) base (now (values .entry)) at (now (out .entry)) (record { f1 = now (f1 .exit); marks = now (marks .exit); row = now (row .exit); level = now (level .exit); on = now (on .exit) }) (x .counts) (x .at) (now (out .exit)) ⌝ }
 {
     let u = tick_of(t, i);
-    let end = steps::retire(f1, marks, row, level, on, u, out, at);
-    if !(framed(s, i) | steps::any_on(on, i)) {
+    let end = retire(f1, marks, row, level, on, u, out, at);
+    if !(framed(s, i) | any_on(on, i)) {
         return Visited { counts: c, at: end };
     }
     let v = value_at(recent, base, values, u + 1);
     let e = pulse_at(s.main, i, u, v);
     let b = bracket_at(s, i, u, recent, base, values);
-    let counts = steps::bracket(f1, marks, row, level, on, c, e, b, i, t);
-    steps::deal(f1, row, level, on, e, i);
+    let counts = bracket(f1, marks, row, level, on, c, e, b, i, t);
+    deal(f1, row, level, on, e, i);
     Visited { counts, at: end }
 }
 
@@ -92,7 +96,7 @@ fn hand_late(
     if t < 179 {
         return at;
     }
-    steps::hand_out(f1, marks, row, level, on, t - 179, out, at)
+    hand_out(f1, marks, row, level, on, t - 179, out, at)
 }
 
 // The columns at the last r ticks of the span, once t ticks are taken.

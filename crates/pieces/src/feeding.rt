@@ -8,12 +8,12 @@ use super::blocks::Run;
 use super::blocks::Stand;
 use super::blocks::block;
 use super::blocks::stays;
+use columns::rows::places_of;
 use edges::flags::bare_block;
 use edges::packing::Planes;
 use edges::packing::pack;
 use edges::packing::pack_part;
-use lanes::columns::places_of;
-use lanes::steps::load;
+use lanes::load;
 use rules::Machine;
 
 // The planes of r ticks from o on.

@@ -15,7 +15,7 @@ use Rattle.rules.specs.Samples.{Trace, A, P, N, M, odd, sweepLimit}
 use Rattle.rules.specs.Replies.{f1, ended}
 use Rattle.rules.specs.Calls.{takeRoom, fresh}
 use Rattle.rules.proofs.Truth.{impossible}
-use Rattle.lanes.specs.Columns.{Rows}
+use Rattle.columns.specs.Columns.{Rows}
 use Rattle.edges.specs.declared.packing.Planes.{Planes}
 use Rattle.edges.specs.Words.{HoldsPart}
 use Rattle.edges.specs.Packing.{PackedPart}

@@ -15,7 +15,7 @@ use Rattle.rules.specs.Calls.{Answer as Verdict, accepted, refused, openAnswer,
 use Rattle.rules.specs.declared.Totals.{Totals}
 use Rattle.sweep.specs.declared.Answer.the-variants.{Accepted, Refused}
 use Rattle.rules.specs.declared.Counts.{Counts}
-use Rattle.lanes.specs.Columns.{Rows, Sized, machineAt}
+use Rattle.columns.specs.Columns.{Rows, Sized, machineAt}
 use Rattle.front.specs.declared.words.Front.{Front}
 use Rattle.sweep.specs.declared.Processor.{Processor}
 use Rattle.sweep.specs.declared.Opened.{Opened}

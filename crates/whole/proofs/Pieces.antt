@@ -15,7 +15,7 @@ use Rattle.rules.specs.Buffers.{over, over-at}
 use Rattle.rules.specs.Records.{records}
 use Rattle.rules.specs.Calls.{accepted, takeRoom, fresh}
 use Rattle.rules.proofs.HandingOut.{fresh-most}
-use Rattle.lanes.specs.Columns.{Rows, Sized, machineAt}
+use Rattle.columns.specs.Columns.{Rows, Sized, machineAt}
 use Rattle.sweep.specs.declared.Answer.{Answer}
 use Rattle.sweep.specs.declared.Answer.the-variants.{Accepted, Refused}
 use Rattle.sweep.specs.declared.Processor.{Processor}

@@ -25,7 +25,7 @@ use Rattle.rules.proofs.HandingOut.{fresh-most, rest-most}
 use Rattle.frames.specs.Writing.{totalsBytes}
 use lib.Ieee.{Float}
 use Rattle.rules.specs.declared.Places.{Places}
-use Rattle.lanes.specs.Columns.{Rows, Sized, placesOf}
+use Rattle.columns.specs.Columns.{Rows, Sized, placesOf}
 use Rattle.lanes.specs.Post.{LoadPost}
 use Rattle.sweep.specs.declared.Answer.{Answer}
 use Rattle.sweep.specs.declared.Answer.the-variants.{Accepted, Refused}

@@ -7,10 +7,10 @@ use Rattle.pieces.proofs.blocks.visit.Statement.{statement}
 use Rattle.pieces.proofs.blocks.visit.Tie as tie
 use Rattle.pieces.proofs.blocks.visit.Reads as reads
 use Rattle.pieces.proofs.blocks.visit.Lts as lts
-use Rattle.lanes.proofs.steps.any_on.Reads as any-on-reads
-use Rattle.lanes.proofs.steps.bracket.Reads as bracket-reads
-use Rattle.lanes.proofs.steps.deal.Reads as deal-reads
-use Rattle.lanes.proofs.steps.retire.Reads as retire-reads
+use Rattle.hearing.proofs.any_on.Reads as any-on-reads
+use Rattle.brackets.proofs.bracket.Reads as bracket-reads
+use Rattle.hearing.proofs.deal.Reads as deal-reads
+use Rattle.lanes.proofs.retire.Reads as retire-reads
 use Rattle.front.proofs.span.bracket_at.Reads as bracket-at-reads
 use Rattle.front.proofs.span.framed.Reads as framed-reads
 use Rattle.front.proofs.span.pulse_at.Reads as pulse-at-reads

@@ -1,0 +1,70 @@
+-- What a bracket makes of the columns, by the places that these stand for.
+use Prim.Native.Nat.{ℕ, _+_, _≤_, _<_}
+use mathlib.Core.Path.{_≡_}
+use mathlib.Core.Bool.{Bool, true, false, cond}
+use mathlib.Core.List.{List}
+use lib.Dec.{eqb}
+use lib.ListN.{length, getD}
+use Rattle.rules.specs.declared.Reply.{Reply}
+use Rattle.rules.specs.declared.Pulse.{Pulse}
+use Rattle.rules.specs.declared.Bracket.{Bracket}
+use Rattle.rules.specs.declared.Bracket.the-variants.{Without, With}
+use Rattle.rules.specs.declared.Counts.{Counts}
+use Rattle.rules.specs.declared.Machine.{Machine}
+use Rattle.rules.specs.Lists.{reject, count}
+use Rattle.rules.specs.Replies.{f1, isPhantom}
+use Rattle.rules.specs.Machine.{openedBy}
+use Rattle.replies.specs.Sums.{capped}
+use Rattle.machine.specs.Places.{pushed, placed, bracketOn, bracketIf}
+use Rattle.columns.specs.Columns.{Rows, none, Sized, placesOf, machineAt}
+use Rattle.columns.specs.Masks.{AllMasked}
+use Rattle.columns.specs.Post.{DropPost, Kept, anyOf, insideFrom, militaryFrom}
+
+-- the same, if c; r is the number of columns that went
+pub record DropIfPost (c : Bool) (x : Rows) (j : ℕ) (x′ : Rows) (r : ℕ) : Type 0 where
+  pub does : c ≡ true → DropPost x j x′
+  pub same : c ≡ false → x′ ≡ x
+  pub number : r ≡ cond c 1 0
+
+-- a bracket at tick i of the block removes the phantoms
+pub record Purged (u : ℕ) (l : List Reply) (x′ : Rows) (n : ℕ) : Type 0 where
+  pub places : placesOf x′ ≡ placed (reject (isPhantom u) l)
+  pub number : n ≡ count (isPhantom u) l
+
+pub record PurgePost (x : Rows) (i : ℕ) (x′ : Rows) (n : ℕ) : Type 0 where
+  pub most : n ≤ 4
+  pub kept : Sized x → Kept x x′
+  pub result : Sized x → (t u : ℕ) → AllMasked t x → t + i ≡ u + 242 → (l : List Reply) → placesOf x ≡ placed l → length l ≤ 4 → Purged u l x′ n
+
+-- the first idle column, or the last
+abbrev pub freeIn : List ℕ → ℕ
+freeIn f = cond (eqb (getD f 0 0) none) 0 (cond (eqb (getD f 1 0) none) 1 (cond (eqb (getD f 2 0) none) 2 3))
+
+-- a reply opens, where a column is idle
+pub record Opened (x : Rows) (covered : Bool) (e f2 : Pulse) (t : ℕ) (x′ : Rows) : Type 0 where
+  pub sized : Sized x′
+  pub masked : AllMasked t x′
+  pub places : placesOf x′ ≡ pushed (openedBy covered (anyOf (insideFrom (e .tick .0)) (x .f1)) (anyOf (militaryFrom (e .tick .0)) (x .f1)) e f2) (placesOf x)
+
+pub record OpenPost (x : Rows) (covered : Bool) (e f2 : Pulse) (t : ℕ) (x′ : Rows) : Type 0 where
+  pub result : Sized x → AllMasked t x → e .tick .0 < 70000 → getD (x .f1) 3 0 ≡ none → Opened x covered e f2 t x′
+
+-- the columns with the counts after a step, which makes m of the machine
+pub record Stepped (t : ℕ) (m : Machine) (x′ : Rows) (c′ : Counts) : Type 0 where
+  pub sized : Sized x′
+  pub masked : AllMasked t x′
+  pub machine : machineAt x′ c′ ≡ m
+
+-- a bracket, which is that of tick i of the block: F1 at e, F2 at f2
+pub record FramePost (x : Rows) (c : Counts) (e f2 : Pulse) (i t : ℕ) (x′ : Rows) (c′ : Counts) : Type 0 where
+  pub result : Sized x → AllMasked t x → t + i ≡ e .tick .0 + 242 → f2 .tick .0 < 70000 → (l : List Reply) → placesOf x ≡ placed l → length l ≤ 4
+      → Stepped t (bracketOn capped e f2 (machineAt x c)) x′ c′
+
+abbrev pub f2Tick : Bracket → ℕ
+f2Tick Without = 0
+f2Tick (With f) = f .tick .0
+
+-- the bracket at tick i of the block, if one stands there
+pub record BracketPost (x : Rows) (c : Counts) (e : Pulse) (b : Bracket) (i t : ℕ) (x′ : Rows) (c′ : Counts) : Type 0 where
+  pub result : Sized x → AllMasked t x → t + i ≡ e .tick .0 + 242 → f2Tick b < 70000 → (l : List Reply) → placesOf x ≡ placed l → length l ≤ 4
+      → Stepped t (bracketIf capped e b (machineAt x c)) x′ c′

@@ -1,0 +1,206 @@
+// A bracket on the columns: phantoms go, and the bracket is a sidelobe, garbled or lost, or a reply opens.
+ghost use Prim.Native.Nat.{_<_, _≤_};
+ghost use mathlib.Core.Path.{_≡_};
+ghost use mathlib.Core.Bool.{_||_, _&&_, not};
+ghost use Rattle.columns.specs.Masks.{coversFrom};
+ghost use Rattle.brackets.specs.Post.{DropIfPost, PurgePost, OpenPost, FramePost, BracketPost, freeIn};
+ghost use Rattle.columns.specs.Post.{anyOf, insideFrom, militaryFrom};
+use columns::masks::covered;
+use columns::rows::drop_column;
+use columns::rows::put_reply;
+use edges::words::marked;
+use lanes::put_masks;
+use machine::any4;
+use machine::opened_by;
+use machine::tallied;
+use replies::military;
+use rules::Bracket;
+use rules::Counts;
+use rules::Fate;
+use rules::Pulse;
+
+// Column j goes, if c. The number of columns that went.
+fn drop_if(
+    c: bool,
+    f1: &mut [u32; 4],
+    marks: &mut [u16; 4],
+    row: &mut [u16; 24],
+    level: &mut [f64; 4],
+    on: &mut [u64; 8],
+    j: usize,
+) -> u16
+    requires { ⌜ j < 4 ⌝ }
+    ensures is { λ r. ⌜ DropIfPost c (record { f1 = now (f1 .entry); marks = now (marks .entry); row = now (row .entry); level = now (level .entry); on = now (on .entry) }) j (record { f1 = now (f1 .exit); marks = now (marks .exit); row = now (row .exit); level = now (level .exit); on = now (on .exit) }) r ⌝ }
+    ensures most { λ r. ⌜ r ≤ 1 ⌝ }
+{
+    if !c {
+        return 0;
+    }
+    drop_column(f1, marks, row, level, on, j);
+    1
+}
+
+// Removes the replies that a bracket at tick i of the block shows to be phantoms; their number.
+fn purge(
+    f1: &mut [u32; 4],
+    marks: &mut [u16; 4],
+    row: &mut [u16; 24],
+    level: &mut [f64; 4],
+    on: &mut [u64; 8],
+    i: u32,
+) -> u16
+    requires { ⌜ i < 64 ⌝ }
+    ensures { λ n. ⌜ PurgePost (record { f1 = now (f1 .entry); marks = now (marks .entry); row = now (row .entry); level = now (level .entry); on = now (on .entry) }) i (record { f1 = now (f1 .exit); marks = now (marks .exit); row = now (row .exit); level = now (level .exit); on = now (on .exit) }) n ⌝ }
+{
+    if !marked(on[4] | on[5] | on[6] | on[7], i) {
+        return 0;
+    }
+    let d = drop_if(marked(on[7], i), f1, marks, row, level, on, 3);
+    let c = drop_if(marked(on[6], i), f1, marks, row, level, on, 2);
+    let b = drop_if(marked(on[5], i), f1, marks, row, level, on, 1);
+    let a = drop_if(marked(on[4], i), f1, marks, row, level, on, 0);
+    a + (b + (c + d))
+}
+
+// A reply with F1 at q covers u at position 1 to 14.
+fn inside_from(q: u32, u: u32) -> bool
+    ensures { λ r. ⌜ r ≡ insideFrom u q ⌝ }
+{
+    covered(q, u) & (((q as u64 + 1) < u as u64) & ((u as u64) < q as u64 + 203))
+}
+
+// An open reply covers u at position 1 to 14.
+fn any_inside(f1: &[u32; 4], u: u32) -> bool
+    ensures { λ r. ⌜ r ≡ anyOf (insideFrom u) (now (f1 .entry)) ⌝ }
+{
+    let a = inside_from(f1[0], u);
+    let b = inside_from(f1[1], u);
+    let c = inside_from(f1[2], u);
+    let d = inside_from(f1[3], u);
+    any4(a, b, c, d)
+}
+
+// A reply that opens at u is military by an open one.
+fn any_military(f1: &[u32; 4], u: u32) -> bool
+    ensures { λ r. ⌜ r ≡ anyOf (militaryFrom u) (now (f1 .entry)) ⌝ }
+{
+    let a = military(f1[0], u);
+    let b = military(f1[1], u);
+    let c = military(f1[2], u);
+    let d = military(f1[3], u);
+    any4(a, b, c, d)
+}
+
+// An open reply covers u.
+fn any_covered(f1: &[u32; 4], u: u32) -> bool
+    ensures { λ r. ⌜ r ≡ anyOf (λ q. coversFrom q u) (now (f1 .entry)) ⌝ }
+{
+    let a = covered(f1[0], u);
+    let b = covered(f1[1], u);
+    let c = covered(f1[2], u);
+    let d = covered(f1[3], u);
+    any4(a, b, c, d)
+}
+
+// A framing pulse has M and is uncovered: the first, or the second, at w, where `main` is its M.
+fn is_clear(f1: &[u32; 4], first: bool, main: bool, w: u32) -> bool
+    ensures { λ r. ⌜ r ≡ (first || (main && not (anyOf (λ q. coversFrom q w) (now (f1 .entry))))) ⌝ }
+{
+    first | (main & !any_covered(f1, w))
+}
+
+// The first idle column, or the last.
+fn free_column(f1: &[u32; 4]) -> usize
+    ensures is { λ j. ⌜ j ≡ freeIn (now (f1 .entry)) ⌝ }
+    ensures within { λ j. ⌜ j < 4 ⌝ }
+{
+    if f1[0] == 4294967295 {
+        return 0;
+    }
+    if f1[1] == 4294967295 {
+        return 1;
+    }
+    if f1[2] == 4294967295 {
+        return 2;
+    }
+    3
+}
+
+// A reply opens in the first idle column; `covered` says that an open one covers its F1.
+fn open_reply(
+    f1: &mut [u32; 4],
+    marks: &mut [u16; 4],
+    row: &mut [u16; 24],
+    level: &mut [f64; 4],
+    on: &mut [u64; 8],
+    covered: bool,
+    e: Pulse,
+    f2: Pulse,
+    t: u32,
+)
+    requires { ⌜ t < 65000 ⌝ }
+    ensures { λ _. ⌜ OpenPost (record { f1 = now (f1 .entry); marks = now (marks .entry); row = now (row .entry); level = now (level .entry); on = now (on .entry) }) covered e f2 t (record { f1 = now (f1 .exit); marks = now (marks .exit); row = now (row .exit); level = now (level .exit); on = now (on .exit) }) ⌝ }
+{
+    let u = e.tick;
+    let suspect = any_inside(f1, u.0);
+    let military = any_military(f1, u.0);
+    let r = opened_by(covered, suspect, military, e, f2);
+    let j = free_column(f1);
+    put_reply(f1, marks, row, level, j, r);
+    put_masks(f1, marks, on, j, t);
+}
+
+// The bracket with F1 at e and F2 at f2, at tick i of the block. The counts after it.
+fn frame(
+    f1: &mut [u32; 4],
+    marks: &mut [u16; 4],
+    row: &mut [u16; 24],
+    level: &mut [f64; 4],
+    on: &mut [u64; 8],
+    c: Counts,
+    e: Pulse,
+    f2: Pulse,
+    i: u32,
+    t: u32,
+) -> Counts
+    requires { ⌜ (i < 64) × (t < 65000) ⌝ }
+    ensures { λ r. ⌜ FramePost (record { f1 = now (f1 .entry); marks = now (marks .entry); row = now (row .entry); level = now (level .entry); on = now (on .entry) }) c e f2 i t (record { f1 = now (f1 .exit); marks = now (marks .exit); row = now (row .exit); level = now (level .exit); on = now (on .exit) }) r ⌝ }
+{
+    if !(e.main | f2.main) {
+        return tallied(Fate::Sidelobe, 0, c);
+    }
+    let w = f2.tick;
+    let n = purge(f1, marks, row, level, on, i);
+    let last = f1[3];
+    let covered = marked(on[0] | on[1] | on[2] | on[3], i);
+    if !is_clear(f1, e.main & !covered, f2.main, w.0) {
+        return tallied(Fate::Garbled, n, c);
+    }
+    if last != 4294967295 {
+        return tallied(Fate::Lost, n, c);
+    }
+    open_reply(f1, marks, row, level, on, covered, e, f2, t);
+    tallied(Fate::Opens, n, c)
+}
+
+// The bracket at e, if one stands there.
+pub fn bracket(
+    f1: &mut [u32; 4],
+    marks: &mut [u16; 4],
+    row: &mut [u16; 24],
+    level: &mut [f64; 4],
+    on: &mut [u64; 8],
+    c: Counts,
+    e: Pulse,
+    b: Bracket,
+    i: u32,
+    t: u32,
+) -> Counts
+    requires { ⌜ (i < 64) × (t < 65000) ⌝ }
+    ensures { λ r. ⌜ BracketPost (record { f1 = now (f1 .entry); marks = now (marks .entry); row = now (row .entry); level = now (level .entry); on = now (on .entry) }) c e b i t (record { f1 = now (f1 .exit); marks = now (marks .exit); row = now (row .exit); level = now (level .exit); on = now (on .exit) }) r ⌝ }
+{
+    match b {
+        Bracket::Without => c,
+        Bracket::With(f2) => frame(f1, marks, row, level, on, c, e, f2, i, t),
+    }
+}

@@ -1,0 +1,3 @@
+pub mod ColumnLaws
+pub mod MaskLaws
+pub mod Holding

@@ -1,0 +1,2 @@
+pub mod FreshBits
+pub mod Dealing
