@@ -6,7 +6,7 @@ use Rattle.rules.specs.Sentences.{leadAt}
 use Rattle.edges.specs.declared.detection.Past.{Past}
 use Rattle.edges.specs.declared.detection.Found.{Found}
 use Rattle.edges.specs.Words.{Holds}
-use Rattle.edges.specs.Planes.{fallsAt, calmAt, chainAt, hasEdge}
+use Rattle.edges.specs.Planes.{fallsAt, calmAt, chainAt, untrailed, drawnOut, hasEdge}
 
 -- A and P of the ticks b to b+127 give the leads of b+62 to b+125
 pub record Leads (a p a₀ p₀ r : ℕ) : Type 0 where
@@ -22,6 +22,16 @@ pub record Trails (a p n a₀ p₀ n₀ r : ℕ) : Type 0 where
 pub record Chain (l l₀ k k₀ h₀ r : ℕ) : Type 0 where
   pub holds : (F : List ℕ) (b : ℕ) → Holds (leadAt F) b l₀ → Holds (leadAt F) (b + 64) l → Holds (calmAt F) b k₀ → Holds (calmAt F) (b + 64) k
       → Holds (chainAt F) b h₀ → Holds (chainAt F) (b + 64) r
+
+-- leads and calm ticks of b to b+127 give the ticks of b+57 to b+120 that no trail follows too soon; the plane is that of the ticks before these
+pub record NoTrail (l l₀ k k₀ r : ℕ) : Type 0 where
+  pub holds : (F : List ℕ) (b : ℕ) → Holds (leadAt F) b l₀ → Holds (leadAt F) (b + 64) l → Holds (calmAt F) b k₀ → Holds (calmAt F) (b + 64) k
+      → Holds (untrailed F) (b + 56) r
+
+-- calm ticks and the chain of b to b+127 give the ticks of b+57 to b+120 in a long run; the plane is that of the ticks before these
+pub record Long (k k₀ h h₀ r : ℕ) : Type 0 where
+  pub holds : (F : List ℕ) (b : ℕ) → Holds (calmAt F) b k₀ → Holds (calmAt F) (b + 64) k → Holds (chainAt F) b h₀ → Holds (chainAt F) (b + 64) h
+      → Holds (drawnOut F) (b + 56) r
 
 -- leads, calm ticks and the chain of b to b+127 give the edges of b+57 to b+120
 pub record Edges (l l₀ k k₀ h h₀ r : ℕ) : Type 0 where

@@ -1,7 +1,7 @@
 // Leads, trails, runs and edges of 64 ticks at once. A name with 0 at its end is the word of the 64 ticks before.
 // A trail shows two ticks late and an edge seven ticks after that, so the words of leads and calm ticks start two ticks before those of A, P and N,
 // and the words of edges seven ticks before those of leads.
-ghost use Rattle.edges.specs.Detection.{Leads, Trails, Chain, Edges, Detected};
+ghost use Rattle.edges.specs.Detection.{Leads, Trails, Chain, NoTrail, Long, Edges, Detected};
 
 // The leads of the 64 ticks that start two before those of a and p.
 pub fn leads(a: u64, p: u64, a0: u64, p0: u64) -> u64
@@ -53,27 +53,44 @@ pub fn chain(lead: u64, lead0: u64, calm: u64, calm0: u64, chain0: u64) -> u64
 pub fn edges(lead: u64, lead0: u64, calm: u64, calm0: u64, chain: u64, chain0: u64) -> u64
     ensures { λ r. ⌜ Edges lead lead0 calm calm0 chain chain0 r ⌝ }
 {
+    let untrailed = no_trail(lead, lead0, calm, calm0);
+    let drawn_out = long(calm, calm0, chain, chain0);
     let lead_x = (lead << 7) | (lead0 >> 57);
     let lead_4 = (lead << 3) | (lead0 >> 61);
-    let lead_5 = (lead << 2) | (lead0 >> 62);
-    let lead_6 = (lead << 1) | (lead0 >> 63);
-    let calm_before = (calm << 8) | (calm0 >> 56);
-    let calm_x = (calm << 7) | (calm0 >> 57);
     let calm_1 = (calm << 6) | (calm0 >> 58);
     let calm_2 = (calm << 5) | (calm0 >> 59);
     let calm_3 = (calm << 4) | (calm0 >> 60);
     let calm_4 = (calm << 3) | (calm0 >> 61);
+    let chain_x = (chain << 7) | (chain0 >> 57);
+    let pseudo = (!calm_4 & !lead_4) & drawn_out;
+    let goes_on = calm_1 & calm_2 & calm_3;
+    (lead_x & calm_1) | (goes_on & ((chain_x & untrailed) | pseudo))
+}
+
+// The ticks x, of those of the edges, after which no trail from x+4 to x+7 comes before a lead.
+fn no_trail(lead: u64, lead0: u64, calm: u64, calm0: u64) -> u64
+    ensures { λ r. ⌜ NoTrail lead lead0 calm calm0 r ⌝ }
+{
+    let lead_4 = (lead << 3) | (lead0 >> 61);
+    let lead_5 = (lead << 2) | (lead0 >> 62);
+    let lead_6 = (lead << 1) | (lead0 >> 63);
+    let calm_4 = (calm << 3) | (calm0 >> 61);
     let calm_5 = (calm << 2) | (calm0 >> 62);
     let calm_6 = (calm << 1) | (calm0 >> 63);
+    lead_4 | (calm_4 & (lead_5 | (calm_5 & (lead_6 | (calm_6 & (lead | calm))))))
+}
+
+// The ticks x, of those of the edges, in a run whose lead is at x-2 or before, if it has not ended by x+3.
+fn long(calm: u64, calm0: u64, chain: u64, chain0: u64) -> u64
+    ensures { λ r. ⌜ Long calm calm0 chain chain0 r ⌝ }
+{
+    let calm_before = (calm << 8) | (calm0 >> 56);
+    let calm_x = (calm << 7) | (calm0 >> 57);
     let chain_x = (chain << 7) | (chain0 >> 57);
     let chain_1 = (chain << 6) | (chain0 >> 58);
     let chain_2 = (chain << 5) | (chain0 >> 59);
     let chain_3 = (chain << 4) | (chain0 >> 60);
-    let no_trail = lead_4 | (calm_4 & (lead_5 | (calm_5 & (lead_6 | (calm_6 & (lead | calm))))));
-    let long = calm_x & calm_before & (chain_x | chain_1 | chain_2 | chain_3);
-    let pseudo = (!calm_4 & !lead_4) & long;
-    let goes_on = calm_1 & calm_2 & calm_3;
-    (lead_x & calm_1) | (goes_on & ((chain_x & no_trail) | pseudo))
+    calm_x & calm_before & (chain_x | chain_1 | chain_2 | chain_3)
 }
 
 // The words of the 64 ticks before: A, P, N, and the leads, calm ticks and chain, which start two ticks earlier.

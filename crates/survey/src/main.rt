@@ -37,6 +37,20 @@ fn ended(p: Processor) -> Survey {
     }
 }
 
+// A read gave bytes more, or nothing as a signal interrupted it; or the input is at its end; or the read failed.
+enum Came {
+    More,
+    End,
+    Nothing,
+    Failed,
+}
+
+// What a read gave, and how many bytes of the input buffer are in use then.
+struct Read {
+    came: Came,
+    n: usize,
+}
+
 // What carrying out lines came to: the processor, the place behind the last line, whether lines are left, and whether the survey is over.
 struct Passed {
     processor: Processor,
@@ -121,8 +135,46 @@ fn to_start(input: &mut [u8], from: usize, to: usize) -> usize
     i
 }
 
+// Why a read gave nothing. A failure is reported.
+fn unread() -> Came {
+    if os::errno() == EINTR {
+        return Came::Nothing;
+    }
+    os::fail(b"cannot read");
+    Came::Failed
+}
+
+// Reads once, behind the bytes kept.
+fn read_more(input: &mut [u8], kept: usize) -> Read
+    ensures { λ r. ⌜ r .n ≤ length (now (input .exit)) ⌝ }
+{
+    if input.len() < kept {
+        return Read {
+            came: Came::Failed,
+            n: 0,
+        };
+    }
+    let got = libc::read(STDIN_FILENO, &mut input[kept..]);
+    if got < 0 {
+        return Read {
+            came: unread(),
+            n: 0,
+        };
+    }
+    if got == 0 {
+        return Read {
+            came: Came::End,
+            n: kept,
+        };
+    }
+    Read {
+        came: Came::More,
+        n: kept + io::count(got, &input[kept..]),
+    }
+}
+
 // What is left of the input at its end has no newline: it is refused.
-fn last(s: Survey, rest: &[u8], output: &mut [u8]) {
+fn last(used: u64, rest: &[u8], output: &mut [u8]) {
     let n = rest.len();
     if n == 0 {
         return;
@@ -132,7 +184,7 @@ fn last(s: Survey, rest: &[u8], output: &mut [u8]) {
         return;
     };
     if print(&output[..at]) {
-        report(number, more(s.used, n));
+        report(number, more(used, n));
     }
 }
 
@@ -187,27 +239,20 @@ fn carried(s: Survey, input: &mut [u8], n: usize, output: &mut [u8]) -> Survey
     ended(p)
 }
 
-// Reads once, and carries out what came.
+// Carries out what a read gave.
 fn turn(s: Survey, input: &mut [u8], output: &mut [u8]) -> Survey {
-    let kept = s.kept;
-    let p = s.processor;
-    if input.len() < kept {
-        return ended(p);
-    }
-    let got = libc::read(STDIN_FILENO, &mut input[kept..]);
-    if got < 0 {
-        if os::errno() == EINTR {
-            return s;
+    let r = read_more(input, s.kept);
+    let came = r.came;
+    let n = r.n;
+    match came {
+        Came::More => carried(s, input, n, output),
+        Came::End => {
+            last(s.used, &input[..n], output);
+            ended(s.processor)
         }
-        os::fail(b"cannot read");
-        return ended(p);
+        Came::Nothing => s,
+        Came::Failed => ended(s.processor),
     }
-    if got == 0 {
-        last(s, &input[..kept], output);
-        return ended(p);
-    }
-    let n = kept + io::count(got, &input[kept..]);
-    carried(s, input, n, output)
 }
 
 fn run(input: &mut [u8], output: &mut [u8]) {

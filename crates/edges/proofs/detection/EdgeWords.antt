@@ -18,7 +18,7 @@ use Rattle.rules.specs.Edges.{noEdge, actual, pseudo, extra, isEdge, lead, fall
 use Rattle.rules.specs.Sentences.{leadAt}
 use Rattle.rules.proofs.Truth.{impossible}
 use Rattle.edges.specs.Words.{Holds}
-use Rattle.edges.specs.Planes.{fallsAt, calmAt, chainOf, chainAt, hasEdge}
+use Rattle.edges.specs.Planes.{fallsAt, calmAt, chainOf, chainAt, untrailed, drawnOut, hasEdge}
 use Rattle.edges.proofs.PlaneLaws.{inv, back, holds-and, holds-or, holds-not, holds-eq, holds-behind, place, newest}
 use Rattle.edges.proofs.detection.RunLaws as run
 use Rattle.edges.proofs.detection.RunLaws.{ends, ends-are, edge-bools, chain-small}
@@ -162,6 +162,20 @@ module _ (F : List ℕ) where
       ≡ hasEdge F (y + 1)
   edge-at y = rw (add-zero, add-one, add-two, add-three, add-four, add-five, add-six, add-seven, add-eight) (edge-planes y)
 
+  module _ (b l l₀ k k₀ : ℕ) (hl₀ : Holds (leadAt F) b l₀) (hl : Holds (leadAt F) (b + 64) l) (hk₀ : Holds (calmAt F) b k₀) (hk : Holds (calmAt F) (b + 64) k) where
+    pub untrailed-hold : Holds (untrailed F) (b + 56)
+        (bitOr (back 3 l l₀) (bitAnd (back 3 k k₀) (bitOr (back 2 l l₀) (bitAnd (back 2 k k₀) (bitOr (back 1 l l₀) (bitAnd (back 1 k k₀) (bitOr l k)))))))
+    untrailed-hold =
+        holds-or (ahead hl hl₀ 5 (omega arith)) (holds-and (ahead hk hk₀ 5 (omega arith)) (holds-or (ahead hl hl₀ 6 (omega arith)) (holds-and (ahead hk hk₀ 6 (omega arith))
+        (holds-or (ahead hl hl₀ 7 (omega arith)) (holds-and (ahead hk hk₀ 7 (omega arith)) (holds-or (newest hl hl₀ 8 (omega arith)) (newest hk hk₀ 8 (omega arith))))))))
+
+  module _ (b k k₀ h h₀ : ℕ) (hk₀ : Holds (calmAt F) b k₀) (hk : Holds (calmAt F) (b + 64) k) (hh₀ : Holds (chainAt F) b h₀) (hh : Holds (chainAt F) (b + 64) h) where
+    pub drawn-out-hold : Holds (drawnOut F) (b + 56)
+        (bitAnd (bitAnd (back 7 k k₀) (back 8 k k₀)) (bitOr (bitOr (bitOr (back 7 h h₀) (back 6 h h₀)) (back 5 h h₀)) (back 4 h h₀)))
+    drawn-out-hold =
+        holds-and (holds-and (ahead hk hk₀ 1 (omega arith)) (ahead hk hk₀ 0 (omega arith)))
+        (holds-or (holds-or (holds-or (ahead hh hh₀ 1 (omega arith)) (ahead hh hh₀ 2 (omega arith))) (ahead hh hh₀ 3 (omega arith))) (ahead hh hh₀ 4 (omega arith)))
+
   module _ (b l l₀ k k₀ h h₀ : ℕ) (hl₀ : Holds (leadAt F) b l₀) (hl : Holds (leadAt F) (b + 64) l) (hk₀ : Holds (calmAt F) b k₀) (hk : Holds (calmAt F) (b + 64) k)
       (hh₀ : Holds (chainAt F) b h₀) (hh : Holds (chainAt F) (b + 64) h) where
     L : (d : ℕ) → d ≤ 8 → Holds (λ t. leadAt F (t + d)) (b + 56) (back (8 - d) l l₀)
@@ -174,20 +188,14 @@ module _ (F : List ℕ) where
     H = ahead hh hh₀
 
     -- leads, calm ticks and the chain of b to b+127 give the edges of b+57 to b+120
-    pub edges-hold : Holds (hasEdge F) (b + 57)
+    pub edges-hold : (u d : ℕ) → Holds (untrailed F) (b + 56) u → Holds (drawnOut F) (b + 56) d
+        → Holds (hasEdge F) (b + 57)
         (bitOr (bitAnd (back 7 l l₀) (back 6 k k₀))
         (bitAnd (bitAnd (bitAnd (back 6 k k₀) (back 5 k k₀)) (back 4 k k₀))
-        (bitOr (bitAnd (back 7 h h₀)
-        (bitOr (back 3 l l₀) (bitAnd (back 3 k k₀) (bitOr (back 2 l l₀) (bitAnd (back 2 k k₀) (bitOr (back 1 l l₀) (bitAnd (back 1 k k₀) (bitOr l k))))))))
-        (bitAnd (bitAnd (inv (back 3 k k₀)) (inv (back 3 l l₀)))
-        (bitAnd (bitAnd (back 7 k k₀) (back 8 k k₀)) (bitOr (bitOr (bitOr (back 7 h h₀) (back 6 h h₀)) (back 5 h h₀)) (back 4 h h₀)))))))
-    edges-hold =
+        (bitOr (bitAnd (back 7 h h₀) u) (bitAnd (bitAnd (inv (back 3 k k₀)) (inv (back 3 l l₀))) d))))
+    edges-hold u d hu hd =
         holds-behind 1 (b + 56) (b + 57) (omega arith)
         (holds-eq edge-at
         (holds-or (holds-and (L 1 (omega arith)) (K 2 (omega arith)))
         (holds-and (holds-and (holds-and (K 2 (omega arith)) (K 3 (omega arith))) (K 4 (omega arith)))
-        (holds-or (holds-and (H 1 (omega arith))
-        (holds-or (L 5 (omega arith)) (holds-and (K 5 (omega arith)) (holds-or (L 6 (omega arith)) (holds-and (K 6 (omega arith))
-        (holds-or (L 7 (omega arith)) (holds-and (K 7 (omega arith)) (holds-or (newest hl hl₀ 8 (omega arith)) (newest hk hk₀ 8 (omega arith))))))))))
-        (holds-and (holds-and (holds-not (K 5 (omega arith))) (holds-not (L 5 (omega arith))))
-        (holds-and (holds-and (K 1 (omega arith)) (K 0 (omega arith))) (holds-or (holds-or (holds-or (H 1 (omega arith)) (H 2 (omega arith))) (H 3 (omega arith))) (H 4 (omega arith)))))))))
+        (holds-or (holds-and (H 1 (omega arith)) hu) (holds-and (holds-and (holds-not (K 5 (omega arith))) (holds-not (L 5 (omega arith)))) hd)))))
