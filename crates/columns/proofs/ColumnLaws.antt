@@ -24,7 +24,7 @@ use Rattle.rules.proofs.Truth.{same-or}
 use Rattle.replies.specs.Sums.{capped}
 use Rattle.machine.specs.Places.{idle}
 use Rattle.columns.specs.Columns.{marksNumber, marksOf, kindOf, estimateOf, Rows, Sized, none, wordAt, referenceAt, placeIn, columnAt, idleColumn, FitsSlot}
-use Rattle.columns.specs.Post.{WordPost, PutPost, Moved, MovePost, DropPost}
+use Rattle.columns.specs.Post.{WordPost, PutPost, Moved, rowMoved, wordsMoved, MovePost, DropPost}
 
 -- ---- marks and estimates
 
@@ -463,8 +463,21 @@ moved-up x j sized h =
           λ z. record { place = q z; cover = r z; phantom = s z };
     }
 
-pub move-law : (x : Rows) (j : ℕ) → j < 3 → MovePost x j (movedUp x j)
-move-law x j h = record { result = λ s. moved-up x j s h }
+pub move-law : (x : Rows) (j : ℕ) (w on : List ℕ) → j < 3 → w ≡ rowMoved (x .row) j → on ≡ wordsMoved (x .on) j
+    → MovePost x j
+    (record {
+      f1 = set (x .f1) j (getD (x .f1) (1 + j) 0);
+      marks = set (x .marks) j (getD (x .marks) (1 + j) 0);
+      row = w;
+      level = set (x .level) j (getD (x .level) (1 + j) nan);
+      on = on;
+    })
+move-law x j w on h e k =
+    record {
+      result = λ s.
+          subst (λ (l : List ℕ). Moved x j (record { f1 = movedUp x j .f1; marks = movedUp x j .marks; row = l; level = movedUp x j .level; on = on })) (sym e)
+          (subst (λ (l : List ℕ). Moved x j (record { f1 = movedUp x j .f1; marks = movedUp x j .marks; row = movedUp x j .row; level = movedUp x j .level; on = l })) (sym k) (moved-up x j s h));
+    }
 
 -- up to column i those behind j have moved up
 pub record Up (x₀ : Rows) (j : ℕ) (x : Rows) (i : ℕ) : Type 0 where

@@ -4,7 +4,7 @@ use mathlib.Core.Path.{_≡_}
 use mathlib.Core.Bool.{Bool, _&&_, _||_}
 use mathlib.Core.List.{List}
 use lib.Dec.{leb}
-use lib.ListN.{length, getD}
+use lib.ListN.{length, getD, set}
 use lib.Ieee.{Float}
 use Rattle.rules.specs.declared.Word.{Word}
 use Rattle.rules.specs.declared.Reference.{Reference}
@@ -37,6 +37,14 @@ pub record Put (x : Rows) (j : ℕ) (p : Place) (f′ m′ w′ : List ℕ) (v�
 pub record PutPost (f m w : List ℕ) (v : List Float) (j : ℕ) (p : Place) (f′ m′ w′ : List ℕ) (v′ : List Float) : Type 0 where
   pub result : (on : List ℕ) → Sized (record { f1 = f; marks = m; row = w; level = v; on = on })
       → Put (record { f1 = f; marks = m; row = w; level = v; on = on }) j p f′ m′ w′ v′
+
+-- the numbers of column j in the row, and its words of ticks, become those of the column behind it
+abbrev pub rowMoved : List ℕ → ℕ → List ℕ
+rowMoved w j =
+    set (set (set (set (set (set w j (getD w (1 + j) 0)) (4 + j) (getD w (5 + j) 0)) (8 + j) (getD w (9 + j) 0)) (12 + j) (getD w (13 + j) 0)) (16 + j) (getD w (17 + j) 0)) (20 + j) (getD w (21 + j) 0)
+
+abbrev pub wordsMoved : List ℕ → ℕ → List ℕ
+wordsMoved on j = set (set on j (getD on (1 + j) 0)) (4 + j) (getD on (5 + j) 0)
 
 -- column j becomes that behind it
 pub record Moved (x : Rows) (j : ℕ) (x′ : Rows) : Type 0 where

@@ -6,7 +6,7 @@ ghost use Rattle.rules.specs.declared.Slot.the-variants.{Open};
 ghost use Rattle.rules.specs.Replies.{average};
 ghost use Rattle.replies.specs.Sums.{capped};
 ghost use Rattle.columns.specs.Columns.{marksNumber, marksOf, kindOf, estimateOf, wordAt, referenceAt, placeIn, placesIn};
-ghost use Rattle.columns.specs.Post.{WordPost, PutPost, MovePost, DropPost};
+ghost use Rattle.columns.specs.Post.{WordPost, PutPost, rowMoved, wordsMoved, MovePost, DropPost};
 use replies::averaged;
 use replies::level_of;
 use replies::pick;
@@ -212,17 +212,10 @@ pub fn places_of(f1: &[u32; 4], marks: &[u16; 4], row: &[u16; 24], level: &[f64;
     Places { p0, p1, p2, p3 }
 }
 
-// Column j becomes that behind it.
-fn move_up(
-    f1: &mut [u32; 4],
-    marks: &mut [u16; 4],
-    row: &mut [u16; 24],
-    level: &mut [f64; 4],
-    on: &mut [u64; 8],
-    j: usize,
-)
+// The numbers of column j in the row become those of the column behind it.
+fn move_row(row: &mut [u16; 24], j: usize)
     requires { ⌜ j < 3 ⌝ }
-    ensures { λ _. ⌜ MovePost (record { f1 = now (f1 .entry); marks = now (marks .entry); row = now (row .entry); level = now (level .entry); on = now (on .entry) }) j (record { f1 = now (f1 .exit); marks = now (marks .exit); row = now (row .exit); level = now (level .exit); on = now (on .exit) }) ⌝ }
+    ensures { λ _. ⌜ now (row .exit) ≡ rowMoved (now (row .entry)) j ⌝ }
 {
     let a = row[1 + j];
     let b = row[5 + j];
@@ -236,13 +229,36 @@ fn move_up(
     row[12 + j] = d;
     row[16 + j] = e;
     row[20 + j] = f;
-    f1[j] = f1[1 + j];
-    marks[j] = marks[1 + j];
-    level[j] = level[1 + j];
+}
+
+// Its words of ticks.
+fn move_words(on: &mut [u64; 8], j: usize)
+    requires { ⌜ j < 3 ⌝ }
+    ensures { λ _. ⌜ now (on .exit) ≡ wordsMoved (now (on .entry)) j ⌝ }
+{
     let x = on[1 + j];
     let y = on[5 + j];
     on[j] = x;
     on[4 + j] = y;
+}
+
+// Column j becomes that behind it.
+fn move_up(
+    f1: &mut [u32; 4],
+    marks: &mut [u16; 4],
+    row: &mut [u16; 24],
+    level: &mut [f64; 4],
+    on: &mut [u64; 8],
+    j: usize,
+)
+    requires { ⌜ j < 3 ⌝ }
+    ensures { λ _. ⌜ MovePost (record { f1 = now (f1 .entry); marks = now (marks .entry); row = now (row .entry); level = now (level .entry); on = now (on .entry) }) j (record { f1 = now (f1 .exit); marks = now (marks .exit); row = now (row .exit); level = now (level .exit); on = now (on .exit) }) ⌝ }
+{
+    move_row(row, j);
+    move_words(on, j);
+    f1[j] = f1[1 + j];
+    marks[j] = marks[1 + j];
+    level[j] = level[1 + j];
 }
 
 // Column j goes, and those behind it move up.
