@@ -35,10 +35,10 @@ use Rattle.edges.specs.Words.{bit}
 use Rattle.columns.specs.Columns.{Rows, Sized, placesOf, machineAt}
 use Rattle.columns.specs.Masks.{AllMasked}
 use Rattle.lanes.specs.Post.{HandPost}
-use Rattle.brackets.specs.Post.{f2Tick, BracketPost}
+use Rattle.framing.specs.Post.{f2Tick, BracketPost}
 use Rattle.hearing.specs.Post.{DealPost}
 use Rattle.columns.proofs.Holding.{masked-rows}
-use Rattle.brackets.proofs.Framing.{bracket-none as no-bracket}
+use Rattle.framing.proofs.Framing.{bracket-none as no-bracket}
 use Rattle.hearing.proofs.Dealing.{deal-none}
 use Rattle.front.specs.declared.span.Span.{Span}
 use Rattle.pieces.specs.Steps.{stateAt, Bounded, Shows, Went, VisitPost}

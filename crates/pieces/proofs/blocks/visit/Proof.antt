@@ -8,7 +8,7 @@ use Rattle.pieces.proofs.blocks.visit.Tie as tie
 use Rattle.pieces.proofs.blocks.visit.Reads as reads
 use Rattle.pieces.proofs.blocks.visit.Lts as lts
 use Rattle.hearing.proofs.any_on.Reads as any-on-reads
-use Rattle.brackets.proofs.bracket.Reads as bracket-reads
+use Rattle.framing.proofs.bracket.Reads as bracket-reads
 use Rattle.hearing.proofs.deal.Reads as deal-reads
 use Rattle.lanes.proofs.retire.Reads as retire-reads
 use Rattle.front.proofs.span.bracket_at.Reads as bracket-at-reads

@@ -1,6 +1,6 @@
 use borrow.Author.Needs.{needs}
-use Rattle.brackets.proofs.is_clear.Statement.{statement}
-use Rattle.brackets.proofs.is_clear.Tie as tie
+use Rattle.framing.proofs.is_clear.Statement.{statement}
+use Rattle.framing.proofs.is_clear.Tie as tie
 
 any-covered-requires : tie.Need-any-covered-requires
 any-covered-requires c κs = search needs

@@ -2,10 +2,10 @@ use Rattle.machine.specs.Places.{any3}
 use mathlib.Core.Bool.{_||_}
 use mathlib.Core.Path.{refl, sym, ap, _∙_}
 use borrow.Author.Needs.{needs}
-use Rattle.brackets.proofs.any_covered.Statement.{statement}
-use Rattle.brackets.proofs.any_covered.Tie as tie
-use Rattle.brackets.proofs.any_covered.Reads as reads
-use Rattle.brackets.proofs.any_covered.Lts as lts
+use Rattle.framing.proofs.any_covered.Statement.{statement}
+use Rattle.framing.proofs.any_covered.Tie as tie
+use Rattle.framing.proofs.any_covered.Reads as reads
+use Rattle.framing.proofs.any_covered.Lts as lts
 use Rattle.columns.proofs.masks.covered.Reads as covered-reads
 use Rattle.machine.proofs.any4.Reads as any4-reads
 

@@ -22,7 +22,7 @@ use Rattle.edges.proofs.BitLaws.{bit-or}
 use Rattle.columns.specs.Columns.{Rows, Sized, placesIn, placesOf, columnAt}
 use Rattle.columns.specs.Masks.{AllMasked}
 use Rattle.columns.specs.Post.{DropPost, Kept}
-use Rattle.brackets.specs.Post.{DropIfPost, PurgePost}
+use Rattle.framing.specs.Post.{DropIfPost, PurgePost}
 use Rattle.columns.proofs.Holding.{place-over, place-there, Holding, holds-places, places-hold, drop-holds, drop-kept, kept-same, kept-more}
 
 -- ---- lists

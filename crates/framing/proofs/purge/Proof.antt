@@ -1,13 +1,13 @@
-use Rattle.brackets.proofs.Purging.{purge-none, purge-law}
+use Rattle.framing.proofs.Purging.{purge-none, purge-law}
 use native.Mathlib.Omega.{arith}
 use borrow.Author.Tests.{not-true, not-false}
 use borrow.Author.Needs.{needs}
-use Rattle.brackets.proofs.purge.Statement.{statement}
-use Rattle.brackets.proofs.purge.Tie as tie
-use Rattle.brackets.proofs.purge.Reads as reads
-use Rattle.brackets.proofs.purge.Lts as lts
+use Rattle.framing.proofs.purge.Statement.{statement}
+use Rattle.framing.proofs.purge.Tie as tie
+use Rattle.framing.proofs.purge.Reads as reads
+use Rattle.framing.proofs.purge.Lts as lts
 use Rattle.edges.proofs.words.marked.Reads as marked-reads
-use Rattle.brackets.proofs.drop_if.Reads as drop-if-reads
+use Rattle.framing.proofs.drop_if.Reads as drop-if-reads
 
 -- src/steps.rt:164:16
 element-copy-out-marked : tie.Need-element-copy-out-marked

@@ -28,10 +28,10 @@ use Rattle.edges.specs.Words.{bit}
 use Rattle.columns.specs.Columns.{Rows, Sized, none, placeIn, placesIn, placesOf, machineAt, columnAt}
 use Rattle.columns.specs.Masks.{coversFrom, Masked, AllMasked, PutMasks, MaskPost}
 use Rattle.columns.specs.Post.{Put, PutPost, anyOf, insideFrom, militaryFrom}
-use Rattle.brackets.specs.Post.{Purged, PurgePost, freeIn, OpenPost, FramePost, BracketPost}
+use Rattle.framing.specs.Post.{Purged, PurgePost, freeIn, OpenPost, FramePost, BracketPost}
 use Rattle.columns.proofs.ColumnLaws.{open-there, idle-place}
 use Rattle.columns.proofs.Holding.{any-covered-of, any-inside-of, any-military-of, masked-column, some, some-f1}
-use Rattle.brackets.proofs.Purging.{bit-four, four-any}
+use Rattle.framing.proofs.Purging.{bit-four, four-any}
 
 -- ---- a column is busy where its F1 is that of a reply
 

@@ -1,10 +1,10 @@
-use Rattle.brackets.proofs.Framing.{any-military-law}
+use Rattle.framing.proofs.Framing.{any-military-law}
 use mathlib.Core.Path.{refl, sym, ap, _∙_}
 use borrow.Author.Needs.{needs}
-use Rattle.brackets.proofs.any_military.Statement.{statement}
-use Rattle.brackets.proofs.any_military.Tie as tie
-use Rattle.brackets.proofs.any_military.Reads as reads
-use Rattle.brackets.proofs.any_military.Lts as lts
+use Rattle.framing.proofs.any_military.Statement.{statement}
+use Rattle.framing.proofs.any_military.Tie as tie
+use Rattle.framing.proofs.any_military.Reads as reads
+use Rattle.framing.proofs.any_military.Lts as lts
 use Rattle.machine.proofs.any4.Reads as any4-reads
 use Rattle.replies.proofs.military.Reads as military-reads
 

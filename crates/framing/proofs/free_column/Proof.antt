@@ -2,10 +2,10 @@ use borrow.Author.Tests.{ne-eqb}
 use native.Mathlib.Omega.{arith}
 use mathlib.Core.Path.{refl, sym, ap, _∙_}
 use borrow.Author.Needs.{needs}
-use Rattle.brackets.proofs.free_column.Statement.{statement}
-use Rattle.brackets.proofs.free_column.Tie as tie
-use Rattle.brackets.proofs.free_column.Reads as reads
-use Rattle.brackets.proofs.free_column.Lts as lts
+use Rattle.framing.proofs.free_column.Statement.{statement}
+use Rattle.framing.proofs.free_column.Tie as tie
+use Rattle.framing.proofs.free_column.Reads as reads
+use Rattle.framing.proofs.free_column.Lts as lts
 
 -- src/steps.rt:225:8
 element-copy-out-if1 : tie.Need-element-copy-out-if1

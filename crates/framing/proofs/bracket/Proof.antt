@@ -1,10 +1,10 @@
-use Rattle.brackets.proofs.Framing.{bracket-none, bracket-there}
+use Rattle.framing.proofs.Framing.{bracket-none, bracket-there}
 use borrow.Author.Needs.{needs}
-use Rattle.brackets.proofs.bracket.Statement.{statement}
-use Rattle.brackets.proofs.bracket.Tie as tie
-use Rattle.brackets.proofs.bracket.Reads as reads
-use Rattle.brackets.proofs.bracket.Lts as lts
-use Rattle.brackets.proofs.frame.Reads as frame-reads
+use Rattle.framing.proofs.bracket.Statement.{statement}
+use Rattle.framing.proofs.bracket.Tie as tie
+use Rattle.framing.proofs.bracket.Reads as reads
+use Rattle.framing.proofs.bracket.Lts as lts
+use Rattle.framing.proofs.frame.Reads as frame-reads
 
 -- src/steps.rt:310:29
 enum-told : tie.Need-enum-told

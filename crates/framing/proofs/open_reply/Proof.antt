@@ -1,13 +1,13 @@
-use Rattle.brackets.proofs.Framing.{open-law}
+use Rattle.framing.proofs.Framing.{open-law}
 use borrow.Author.Needs.{needs}
-use Rattle.brackets.proofs.open_reply.Statement.{statement}
-use Rattle.brackets.proofs.open_reply.Tie as tie
-use Rattle.brackets.proofs.open_reply.Reads as reads
-use Rattle.brackets.proofs.open_reply.Lts as lts
+use Rattle.framing.proofs.open_reply.Statement.{statement}
+use Rattle.framing.proofs.open_reply.Tie as tie
+use Rattle.framing.proofs.open_reply.Reads as reads
+use Rattle.framing.proofs.open_reply.Lts as lts
 use Rattle.columns.proofs.rows.put_reply.Reads as put-reply-reads
-use Rattle.brackets.proofs.any_inside.Reads as any-inside-reads
-use Rattle.brackets.proofs.any_military.Reads as any-military-reads
-use Rattle.brackets.proofs.free_column.Reads as free-column-reads
+use Rattle.framing.proofs.any_inside.Reads as any-inside-reads
+use Rattle.framing.proofs.any_military.Reads as any-military-reads
+use Rattle.framing.proofs.free_column.Reads as free-column-reads
 use Rattle.lanes.proofs.put_masks.Reads as put-masks-reads
 use Rattle.machine.proofs.opened_by.Reads as opened-by-reads
 

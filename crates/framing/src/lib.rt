@@ -3,7 +3,7 @@ ghost use Prim.Native.Nat.{_<_, _≤_};
 ghost use mathlib.Core.Path.{_≡_};
 ghost use mathlib.Core.Bool.{_||_, _&&_, not};
 ghost use Rattle.columns.specs.Masks.{coversFrom};
-ghost use Rattle.brackets.specs.Post.{DropIfPost, PurgePost, OpenPost, FramePost, BracketPost, freeIn};
+ghost use Rattle.framing.specs.Post.{DropIfPost, PurgePost, OpenPost, FramePost, BracketPost, freeIn};
 ghost use Rattle.columns.specs.Post.{anyOf, insideFrom, militaryFrom};
 use columns::masks::covered;
 use columns::rows::drop_column;

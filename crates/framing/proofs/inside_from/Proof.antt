@@ -1,7 +1,7 @@
-use Rattle.brackets.proofs.Framing.{inside-law}
+use Rattle.framing.proofs.Framing.{inside-law}
 use borrow.Author.Needs.{needs}
-use Rattle.brackets.proofs.inside_from.Statement.{statement}
-use Rattle.brackets.proofs.inside_from.Tie as tie
+use Rattle.framing.proofs.inside_from.Statement.{statement}
+use Rattle.framing.proofs.inside_from.Tie as tie
 
 covered-requires : tie.Need-covered-requires
 covered-requires c κs = search needs

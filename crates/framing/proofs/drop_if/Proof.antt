@@ -1,11 +1,11 @@
-use Rattle.brackets.proofs.Purging.{drop-none, drop-does}
+use Rattle.framing.proofs.Purging.{drop-none, drop-does}
 use native.Mathlib.Omega.{arith}
 use borrow.Author.Tests.{not-true, not-false}
 use borrow.Author.Needs.{needs}
-use Rattle.brackets.proofs.drop_if.Statement.{statement}
-use Rattle.brackets.proofs.drop_if.Tie as tie
-use Rattle.brackets.proofs.drop_if.Reads as reads
-use Rattle.brackets.proofs.drop_if.Lts as lts
+use Rattle.framing.proofs.drop_if.Statement.{statement}
+use Rattle.framing.proofs.drop_if.Tie as tie
+use Rattle.framing.proofs.drop_if.Reads as reads
+use Rattle.framing.proofs.drop_if.Lts as lts
 use Rattle.columns.proofs.rows.drop_column.Reads as drop-column-reads
 
 -- src/steps.rt:146:9

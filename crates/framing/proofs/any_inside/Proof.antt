@@ -1,8 +1,8 @@
-use Rattle.brackets.proofs.Framing.{any-inside-law}
+use Rattle.framing.proofs.Framing.{any-inside-law}
 use mathlib.Core.Path.{_∙_}
 use borrow.Author.Needs.{needs}
-use Rattle.brackets.proofs.any_inside.Statement.{statement}
-use Rattle.brackets.proofs.any_inside.Tie as tie
+use Rattle.framing.proofs.any_inside.Statement.{statement}
+use Rattle.framing.proofs.any_inside.Tie as tie
 
 element-copy-out-inside-from : tie.Need-element-copy-out-inside-from
 element-copy-out-inside-from c = search needs

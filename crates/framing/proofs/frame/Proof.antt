@@ -1,15 +1,15 @@
 use borrow.Author.Tests.{ne-eqb, not-false, not-true}
-use Rattle.brackets.proofs.Framing.{frame-sidelobe, frame-garbled, frame-lost, frame-opens}
+use Rattle.framing.proofs.Framing.{frame-sidelobe, frame-garbled, frame-lost, frame-opens}
 use native.Mathlib.Omega.{arith}
 use borrow.Author.Needs.{needs}
-use Rattle.brackets.proofs.frame.Statement.{statement}
-use Rattle.brackets.proofs.frame.Tie as tie
-use Rattle.brackets.proofs.frame.Reads as reads
-use Rattle.brackets.proofs.frame.Lts as lts
+use Rattle.framing.proofs.frame.Statement.{statement}
+use Rattle.framing.proofs.frame.Tie as tie
+use Rattle.framing.proofs.frame.Reads as reads
+use Rattle.framing.proofs.frame.Lts as lts
 use Rattle.edges.proofs.words.marked.Reads as marked-reads
-use Rattle.brackets.proofs.is_clear.Reads as is-clear-reads
-use Rattle.brackets.proofs.open_reply.Reads as open-reply-reads
-use Rattle.brackets.proofs.purge.Reads as purge-reads
+use Rattle.framing.proofs.is_clear.Reads as is-clear-reads
+use Rattle.framing.proofs.open_reply.Reads as open-reply-reads
+use Rattle.framing.proofs.purge.Reads as purge-reads
 use Rattle.machine.proofs.tallied.Reads as tallied-reads
 
 -- src/steps.rt:278:9
