@@ -113,8 +113,7 @@ static void time_scenes(double seconds)
     for (int scene = 0; scene < SCENES; scene++) {
         paint_scene(scene, &measured);
         printf("edges\t%s\t%.1f\n", scenes[scene].name, 1000 * count_edges(&measured) / ticks);
-        const size_t count = scenes[scene].content == SHORT_RUNS ? 1 : PIECES;     /* only for the edge rows */
-        for (size_t j = 0; j < count; j++) {
+        for (size_t j = 0; j < PIECES; j++) {
             const work w = { &measured, SWEEPS, ARP_SWEEP, pieces[j], 1 };
             pair p;
             time_all(1, &w, &p, seconds);
