@@ -1,4 +1,4 @@
-// The machine between blocks: four places in order of F1 with the idle ones last, and the counts. While a block is worked the places stand as columns (crate lanes).
+// The machine between pieces: four places in order of F1 with the idle ones last, and the counts. While a piece goes through, the places stand as columns (crate columns).
 ghost use mathlib.Core.Path.{_≡_};
 ghost use Prim.Native.Nat.{_≤_};
 ghost use mathlib.Core.Bool.{_||_, cond};

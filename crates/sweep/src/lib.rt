@@ -103,11 +103,10 @@ pub fn open(mode: u8, azimuth: u16) -> Opened
 }
 
 // The bytes that a reply buffer must have for n ticks: 72 x ceil(n/206).
-fn room_for(n: usize) -> usize
-    requires { ⌜ n ≤ 4096 ⌝ }
+fn room_for(n: u16) -> usize
     ensures { λ r. ⌜ r ≡ takeRoom n ⌝ }
 {
-    72 * ((n + 205) / 206)
+    72 * ((n as usize + 205) / 206)
 }
 
 // A take that is turned down.
@@ -140,7 +139,7 @@ pub fn take(p: Processor, flags: &[u8], values: &[u8], out: &mut [u8]) -> Taken
     if 32768 < base as usize + n {
         return no_take(p, 6);
     }
-    if out.len() < room_for(n) {
+    if out.len() < room_for(n as u16) {
         return no_take(p, 7);
     }
     if has_bad(flags) {

@@ -36,6 +36,9 @@ no-take-requires-4 c κs = search needs
 returns-4 : tie.Need-returns-4
 returns-4 c = take-same (c .before .before .before .before .before .before .before .before .args .p) (c .before .before .before .before .before .before .before .before .args .flags .now) (c .before .before .before .before .before .before .before .before .args .values .now) (c .before .before .before .before .before .before .before .before .args .out .now) 6 _ (c .no-take4 .ensures) (take-6 (c .before .before .before .before .before .before .before .before .args .p) (c .before .before .before .before .before .before .before .before .args .flags .now) (c .before .before .before .before .before .before .before .before .args .values .now) (c .before .before .before .before .before .before .before .before .args .out .now) (omega (arith, c .before .before .before .before .if1 .left)) (c .before .before .before .if2 .left) (c .before .before .if3 .left) (c .before .if4 .taken))
 
+cast-room-for : tie.Need-cast-room-for
+cast-room-for c = omega arith
+
 room-for-requires : tie.Need-room-for-requires
 room-for-requires c κs = search needs
 
@@ -60,11 +63,11 @@ feed-requires c κs = search needs
 keep-requires : tie.Need-keep-requires
 keep-requires c κs = search needs
 
-cast-t25 : tie.Need-cast-t25
-cast-t25 c = omega (arith, c .before .before .before .before .before .before .before .before .before .before .before .before .before .before .before .before .before .before .if3 .left)
+cast-t26 : tie.Need-cast-t26
+cast-t26 c = omega (arith, c .before .before .before .before .before .before .before .before .before .before .before .before .before .before .before .before .before .before .if3 .left)
 
-add-t26 : tie.Need-add-t26
-add-t26 c = omega (arith, c .before .before .before .before .before .before .before .before .before .before .before .before .before .before .before .before .before .if4 .left)
+add-t27 : tie.Need-add-t27
+add-t27 c = omega (arith, c .before .before .before .before .before .before .before .before .before .before .before .before .before .before .before .before .before .if4 .left)
 
 same-length : tie.Need-same-length
 same-length c = search needs
@@ -86,6 +89,7 @@ take-spec =
     add-if4
     no-take-requires-4
     returns-4
+    cast-room-for
     room-for-requires
     no-take-requires-5
     returns-5
@@ -94,7 +98,7 @@ take-spec =
     returns-6
     feed-requires
     keep-requires
-    cast-t25
-    add-t26
+    cast-t26
+    add-t27
     same-length
     returns-7)
