@@ -19,12 +19,12 @@ use Rattle.rules.specs.declared.Reply.{Reply}
 use Rattle.rules.specs.declared.Slot.{Slot}
 use Rattle.rules.specs.declared.Slot.the-variants.{Idle, Open}
 use Rattle.rules.specs.declared.Place.{Place}
-use Rattle.rules.specs.Replies.{f1, level, averaged, average}
+use Rattle.rules.specs.Replies.{f1, level, average}
 use Rattle.rules.proofs.Truth.{same-or}
-use Rattle.replies.specs.Sums.{capped}
+use Rattle.replies.specs.Sums.{wrapped}
 use Rattle.machine.specs.Places.{idle}
 use Rattle.columns.specs.Columns.{marksNumber, marksOf, kindOf, estimateOf, Rows, Sized, none, wordAt, referenceAt, placeIn, columnAt, idleColumn, FitsSlot}
-use Rattle.columns.specs.Post.{WordPost, PutPost, Moved, rowMoved, wordsMoved, MovePost, DropPost}
+use Rattle.columns.specs.Post.{Wrote, WordPost, ReferencePost, PutPost, Moved, rowMoved, wordsMoved, MovePost, DropPost}
 
 -- ---- marks and estimates
 
@@ -81,247 +81,132 @@ level-back k x = go (eqb k 0)
     go true = refl
     go false = refl
 
--- ---- a row of six numbers for each column
+-- ---- three numbers of a row are written
 
-abbrev pub putRow : List ℕ → ℕ → ℕ → ℕ → ℕ → ℕ → ℕ → ℕ → List ℕ
-putRow w j a b c d e f = set (set (set (set (set (set w j a) (4 + j) b) (8 + j) c) (12 + j) d) (16 + j) e) (20 + j) f
+abbrev three : List ℕ → ℕ → ℕ → ℕ → ℕ → ℕ → ℕ → List ℕ
+three w p q r a b c = set (set (set w p a) q b) r c
 
-module _ (w : List ℕ) (j a b c d e f : ℕ) where
-  w₁ : List ℕ
-  w₁ = set w j a
+module _ (w : List ℕ) (p q r a b c : ℕ) (pq : p ≡ q → ⊥) (pr : p ≡ r → ⊥) (qr : q ≡ r → ⊥) where
+  three-other : (k : ℕ) → (k ≡ p → ⊥) → (k ≡ q → ⊥) → (k ≡ r → ⊥) → getD (three w p q r a b c) k 0 ≡ getD w k 0
+  three-other k np nq nr = getD-set-other (set (set w p a) q b) r k c 0 nr ∙ getD-set-other (set w p a) q k b 0 nq ∙ getD-set-other w p k a 0 np
 
-  w₂ : List ℕ
-  w₂ = set w₁ (4 + j) b
+  three-size : length (three w p q r a b c) ≡ length w
+  three-size = length-set (set (set w p a) q b) r c ∙ length-set (set w p a) q b ∙ length-set w p a
 
-  w₃ : List ℕ
-  w₃ = set w₂ (8 + j) c
+  three-first : p < length w → getD (three w p q r a b c) p 0 ≡ a
+  three-first h = getD-set-other (set (set w p a) q b) r p c 0 pr ∙ getD-set-other (set w p a) q p b 0 pq ∙ getD-set-same w p a 0 h
 
-  w₄ : List ℕ
-  w₄ = set w₃ (12 + j) d
+  three-second : q < length w → getD (three w p q r a b c) q 0 ≡ b
+  three-second h = getD-set-other (set (set w p a) q b) r q c 0 qr ∙ getD-set-same (set w p a) q b 0 (omega (arith, h, length-set w p a))
 
-  w₅ : List ℕ
-  w₅ = set w₄ (16 + j) e
+  three-third : r < length w → getD (three w p q r a b c) r 0 ≡ c
+  three-third h = getD-set-same (set (set w p a) q b) r c 0 (omega (arith, h, length-set (set w p a) q b, length-set w p a))
 
-  put-other : (k : ℕ) → (k ≡ j → ⊥) → (k ≡ 4 + j → ⊥) → (k ≡ 8 + j → ⊥) → (k ≡ 12 + j → ⊥) → (k ≡ 16 + j → ⊥) → (k ≡ 20 + j → ⊥)
-      → getD (putRow w j a b c d e f) k 0 ≡ getD w k 0
-  unfolding w₁ w₂ w₃ w₄ w₅
-  put-other k n₁ n₂ n₃ n₄ n₅ n₆ =
-      getD-set-other w₅ (20 + j) k f 0 n₆ ∙ getD-set-other w₄ (16 + j) k e 0 n₅ ∙ getD-set-other w₃ (12 + j) k d 0 n₄
-      ∙ getD-set-other w₂ (8 + j) k c 0 n₃ ∙ getD-set-other w₁ (4 + j) k b 0 n₂ ∙ getD-set-other w j k a 0 n₁
+-- ---- a word is written
 
-  -- a number that is read before it is written is that of the row from before
-  ahead-3 : getD (set (set (set w j a) (4 + j) b) (8 + j) c) (12 + j) 0 ≡ getD w (12 + j) 0
-  unfolding w₁ w₂
-  ahead-3 =
-      getD-set-other w₂ (8 + j) (12 + j) c 0 (λ z. omega arith) ∙ getD-set-other w₁ (4 + j) (12 + j) b 0 (λ z. omega arith)
-      ∙ getD-set-other w j (12 + j) a 0 (λ z. omega arith)
+abbrev withWord : List ℕ → ℕ → Word → List ℕ
+withWord w j a = three w j (4 + j) (8 + j) (a .settled) (a .code) (a .unsure)
 
-  ahead-4 : getD (set (set (set (set w j a) (4 + j) b) (8 + j) c) (12 + j) d) (16 + j) 0 ≡ getD w (16 + j) 0
-  unfolding w₁ w₂ w₃
-  ahead-4 =
-      getD-set-other w₃ (12 + j) (16 + j) d 0 (λ z. omega arith) ∙ getD-set-other w₂ (8 + j) (16 + j) c 0 (λ z. omega arith)
-      ∙ getD-set-other w₁ (4 + j) (16 + j) b 0 (λ z. omega arith) ∙ getD-set-other w j (16 + j) a 0 (λ z. omega arith)
+module _ (w : List ℕ) (j : ℕ) (a : Word) (h : j < 4) where
+  word-other : (k : ℕ) → (k ≡ j → ⊥) → (k ≡ 4 + j → ⊥) → (k ≡ 8 + j → ⊥) → getD (withWord w j a) k 0 ≡ getD w k 0
+  word-other = three-other w j (4 + j) (8 + j) (a .settled) (a .code) (a .unsure) (λ z. omega arith) (λ z. omega arith) (λ z. omega arith)
 
-  ahead-5 : getD (set (set (set (set (set w j a) (4 + j) b) (8 + j) c) (12 + j) d) (16 + j) e) (20 + j) 0 ≡ getD w (20 + j) 0
-  unfolding w₁ w₂ w₃ w₄
-  ahead-5 =
-      getD-set-other w₄ (16 + j) (20 + j) e 0 (λ z. omega arith) ∙ getD-set-other w₃ (12 + j) (20 + j) d 0 (λ z. omega arith)
-      ∙ getD-set-other w₂ (8 + j) (20 + j) c 0 (λ z. omega arith) ∙ getD-set-other w₁ (4 + j) (20 + j) b 0 (λ z. omega arith)
-      ∙ getD-set-other w j (20 + j) a 0 (λ z. omega arith)
-
-  module _ (l : length w ≡ 24) (h : j < 4) where
-    put-0 : getD (putRow w j a b c d e f) j 0 ≡ a
-    unfolding w₁ w₂ w₃ w₄ w₅
-    put-0 =
-        getD-set-other w₅ (20 + j) j f 0 (λ z. omega arith) ∙ getD-set-other w₄ (16 + j) j e 0 (λ z. omega arith)
-        ∙ getD-set-other w₃ (12 + j) j d 0 (λ z. omega arith) ∙ getD-set-other w₂ (8 + j) j c 0 (λ z. omega arith)
-        ∙ getD-set-other w₁ (4 + j) j b 0 (λ z. omega arith) ∙ getD-set-same w j a 0 (omega arith)
-
-    l₁ : length w₁ ≡ 24
-    unfolding w₁
-    l₁ = length-set w j a ∙ l
-
-    put-1 : getD (putRow w j a b c d e f) (4 + j) 0 ≡ b
-    unfolding w₁ w₂ w₃ w₄ w₅
-    put-1 =
-        getD-set-other w₅ (20 + j) (4 + j) f 0 (λ z. omega arith) ∙ getD-set-other w₄ (16 + j) (4 + j) e 0 (λ z. omega arith)
-        ∙ getD-set-other w₃ (12 + j) (4 + j) d 0 (λ z. omega arith) ∙ getD-set-other w₂ (8 + j) (4 + j) c 0 (λ z. omega arith)
-        ∙ getD-set-same w₁ (4 + j) b 0 (omega (arith, l₁))
-
-    l₂ : length w₂ ≡ 24
-    unfolding w₂
-    l₂ = length-set w₁ (4 + j) b ∙ l₁
-
-    put-2 : getD (putRow w j a b c d e f) (8 + j) 0 ≡ c
-    unfolding w₁ w₂ w₃ w₄ w₅
-    put-2 =
-        getD-set-other w₅ (20 + j) (8 + j) f 0 (λ z. omega arith) ∙ getD-set-other w₄ (16 + j) (8 + j) e 0 (λ z. omega arith)
-        ∙ getD-set-other w₃ (12 + j) (8 + j) d 0 (λ z. omega arith) ∙ getD-set-same w₂ (8 + j) c 0 (omega (arith, l₂))
-
-    l₃ : length w₃ ≡ 24
-    unfolding w₃
-    l₃ = length-set w₂ (8 + j) c ∙ l₂
-
-    put-3 : getD (putRow w j a b c d e f) (12 + j) 0 ≡ d
-    unfolding w₁ w₂ w₃ w₄ w₅
-    put-3 =
-        getD-set-other w₅ (20 + j) (12 + j) f 0 (λ z. omega arith) ∙ getD-set-other w₄ (16 + j) (12 + j) e 0 (λ z. omega arith)
-        ∙ getD-set-same w₃ (12 + j) d 0 (omega (arith, l₃))
-
-    l₄ : length w₄ ≡ 24
-    unfolding w₄
-    l₄ = length-set w₃ (12 + j) d ∙ l₃
-
-    put-4 : getD (putRow w j a b c d e f) (16 + j) 0 ≡ e
-    unfolding w₁ w₂ w₃ w₄ w₅
-    put-4 = getD-set-other w₅ (20 + j) (16 + j) f 0 (λ z. omega arith) ∙ getD-set-same w₄ (16 + j) e 0 (omega (arith, l₄))
-
-    l₅ : length w₅ ≡ 24
-    unfolding w₅
-    l₅ = length-set w₄ (16 + j) e ∙ l₄
-
-    put-5 : getD (putRow w j a b c d e f) (20 + j) 0 ≡ f
-    unfolding w₁ w₂ w₃ w₄ w₅
-    put-5 = getD-set-same w₅ (20 + j) f 0 (omega (arith, l₅))
-
-    put-size : length (putRow w j a b c d e f) ≡ 24
-    unfolding w₁ w₂ w₃ w₄ w₅
-    put-size = length-set w₅ (20 + j) f ∙ l₅
-
-    -- the other columns
-    module _ (i : ℕ) (hi : i < 4) (n : i ≡ j → ⊥) where
-      rest-0 : getD (putRow w j a b c d e f) i 0 ≡ getD w i 0
-      rest-0 = put-other i n (λ z. omega arith) (λ z. omega arith) (λ z. omega arith) (λ z. omega arith) (λ z. omega arith)
-
-      rest-1 : getD (putRow w j a b c d e f) (4 + i) 0 ≡ getD w (4 + i) 0
-      rest-1 = put-other (4 + i) (λ z. omega arith) (λ z. n (omega arith)) (λ z. omega arith) (λ z. omega arith) (λ z. omega arith) (λ z. omega arith)
-
-      rest-2 : getD (putRow w j a b c d e f) (8 + i) 0 ≡ getD w (8 + i) 0
-      rest-2 = put-other (8 + i) (λ z. omega arith) (λ z. omega arith) (λ z. n (omega arith)) (λ z. omega arith) (λ z. omega arith) (λ z. omega arith)
-
-      rest-3 : getD (putRow w j a b c d e f) (12 + i) 0 ≡ getD w (12 + i) 0
-      rest-3 = put-other (12 + i) (λ z. omega arith) (λ z. omega arith) (λ z. omega arith) (λ z. n (omega arith)) (λ z. omega arith) (λ z. omega arith)
-
-      rest-4 : getD (putRow w j a b c d e f) (16 + i) 0 ≡ getD w (16 + i) 0
-      rest-4 = put-other (16 + i) (λ z. omega arith) (λ z. omega arith) (λ z. omega arith) (λ z. omega arith) (λ z. n (omega arith)) (λ z. omega arith)
-
-      rest-5 : getD (putRow w j a b c d e f) (20 + i) 0 ≡ getD w (20 + i) 0
-      rest-5 = put-other (20 + i) (λ z. omega arith) (λ z. omega arith) (λ z. omega arith) (λ z. omega arith) (λ z. omega arith) (λ z. n (omega arith))
-
-      word-rest : wordAt (putRow w j a b c d e f) i ≡ wordAt w i
-      unfolding wordAt
-      word-rest = λ k. record { settled = rest-0 k; code = rest-1 k; unsure = rest-2 k }
-
-      reference-rest : (v v′ : List Float) → getD v′ i nan ≡ getD v i nan → referenceAt (putRow w j a b c d e f) v′ i ≡ referenceAt w v i
-      unfolding referenceAt
-      reference-rest v v′ y = λ k. record { estimate = estimateOf (rest-5 k) (y k); n = rest-3 k; s = rest-4 k }
-
-    word-put : wordAt (putRow w j a b c d e f) j ≡ record { settled = a; code = b; unsure = c }
-    unfolding wordAt
-    word-put = λ k. record { settled = put-0 k; code = put-1 k; unsure = put-2 k }
-
-    reference-put : (v′ : List Float) (x : Float) → getD v′ j nan ≡ x → referenceAt (putRow w j a b c d e f) v′ j ≡ record { estimate = estimateOf f x; n = d; s = e }
-    unfolding referenceAt
-    reference-put v′ x y = λ k. record { estimate = estimateOf (put-5 k) (y k); n = put-3 k; s = put-4 k }
-
--- ---- word and reference are written
-
-pub put-word-law : (w : List ℕ) (v : List Float) (j : ℕ) (a : Word) (b : Reference) (kind : ℕ) (x : Float) → j < 4 → kind ≡ kindOf (b .estimate)
-    → x ≡ level (b .estimate) → WordPost w v j a b (putRow w j (a .settled) (a .code) (a .unsure) (b .n) (b .s) kind) (set v j x)
-put-word-law w v j a b kind x h ek ex =
-    let e : estimateOf kind x ≡ b .estimate = ap (λ (k : ℕ). estimateOf k x) ek ∙ ap (estimateOf (kindOf (b .estimate))) ex ∙ estimate-back (b .estimate) in
-    record {
-      result = λ l lv.
-          record {
-            row-size = put-size w j (a .settled) (a .code) (a .unsure) (b .n) (b .s) kind l h;
-            level-size = length-set v j x ∙ lv;
-            word = word-put w j (a .settled) (a .code) (a .unsure) (b .n) (b .s) kind l h;
-            reference = reference-put w j (a .settled) (a .code) (a .unsure) (b .n) (b .s) kind l h (set v j x) x (getD-set-same v j x nan (omega arith)) ∙ (λ k. record { estimate = e k; n = b .n; s = b .s });
-            word-rest = λ i hi n. word-rest w j (a .settled) (a .code) (a .unsure) (b .n) (b .s) kind l h i hi n;
-            reference-rest = λ i hi n. reference-rest w j (a .settled) (a .code) (a .unsure) (b .n) (b .s) kind l h i hi n v (set v j x) (getD-set-other v j i x nan n);
-          };
-    }
-
--- ---- an edge is heard: the word is written, and the reference takes in a value, if c
-
-module _ (w : List ℕ) (v : List Float) (j : ℕ) (a : Word) (c : Bool) (y t n s number sum kind : ℕ) (h : j < 4) (et : t ≡ y)
-    (en : n ≡ capped (getD (set (set (set w j (a .settled)) (4 + j) (a .code)) (8 + j) (a .unsure)) (12 + j) 0) 1)
-    (e₃ : number ≡ cond c n (getD (set (set (set w j (a .settled)) (4 + j) (a .code)) (8 + j) (a .unsure)) (12 + j) 0))
-    (es : s ≡ capped (getD (set (set (set (set w j (a .settled)) (4 + j) (a .code)) (8 + j) (a .unsure)) (12 + j) number) (16 + j) 0) t)
-    (e₄ : sum ≡ cond c s (getD (set (set (set (set w j (a .settled)) (4 + j) (a .code)) (8 + j) (a .unsure)) (12 + j) number) (16 + j) 0))
-    (e₅ : kind ≡ cond c 1 (getD (set (set (set (set (set w j (a .settled)) (4 + j) (a .code)) (8 + j) (a .unsure)) (12 + j) number) (16 + j) sum) (20 + j) 0)) where
-  number-is : number ≡ cond c (capped (getD w (12 + j) 0) 1) (getD w (12 + j) 0)
-  number-is =
-      let r = ahead-3 w j (a .settled) (a .code) (a .unsure) number sum kind in
-      e₃ ∙ ap (λ (z : ℕ). cond c z (getD (set (set (set w j (a .settled)) (4 + j) (a .code)) (8 + j) (a .unsure)) (12 + j) 0)) en ∙ ap (λ (z : ℕ). cond c (capped z 1) z) r
-
-  sum-is : sum ≡ cond c (capped (getD w (16 + j) 0) y) (getD w (16 + j) 0)
-  sum-is =
-      let r = ahead-4 w j (a .settled) (a .code) (a .unsure) number sum kind in
-      e₄ ∙ ap (λ (z : ℕ). cond c z (getD (set (set (set (set w j (a .settled)) (4 + j) (a .code)) (8 + j) (a .unsure)) (12 + j) number) (16 + j) 0)) es
-      ∙ (λ i. cond c (capped (r i) (et i)) (r i))
-
-  kind-is : kind ≡ cond c 1 (getD w (20 + j) 0)
-  kind-is = e₅ ∙ ap (cond c 1) (ahead-5 w j (a .settled) (a .code) (a .unsure) number sum kind)
-
-  -- the reference of column j and those of the others, from where only the estimate of column j may have changed
-  heard-by : (v′ : List Float) (x : Float) → length v′ ≡ length v → getD v′ j nan ≡ x → ((i : ℕ) → (i ≡ j → ⊥) → getD v′ i nan ≡ getD v i nan) → (g : Reference)
-      → _≡_ {A = Reference} (record { estimate = estimateOf kind x; n = number; s = sum }) g
-      → WordPost w v j a g (putRow w j (a .settled) (a .code) (a .unsure) number sum kind) v′
-  heard-by v′ x lv′ same rest g eg =
+  pub put-word-law : WordPost w j a (withWord w j a)
+  unfolding wordAt referenceAt
+  put-word-law =
       record {
-        result = λ l lv.
+        result = λ v l lv.
+            let far : j ≡ 4 + j → ⊥ = λ z. omega arith in
+            let farther : j ≡ 8 + j → ⊥ = λ z. omega arith in
+            let apart : 4 + j ≡ 8 + j → ⊥ = λ z. omega arith in
+            let first = three-first w j (4 + j) (8 + j) (a .settled) (a .code) (a .unsure) far farther apart (omega arith) in
+            let second = three-second w j (4 + j) (8 + j) (a .settled) (a .code) (a .unsure) far farther apart (omega arith) in
+            let third = three-third w j (4 + j) (8 + j) (a .settled) (a .code) (a .unsure) far farther apart (omega arith) in
+            let same : (i : ℕ) → i < 4 → referenceAt (withWord w j a) v i ≡ referenceAt w v i =
+            λ i hi.
+            let n = word-other (12 + i) (λ z. omega arith) (λ z. omega arith) (λ z. omega arith) in
+            let s = word-other (16 + i) (λ z. omega arith) (λ z. omega arith) (λ z. omega arith) in
+            let k = word-other (20 + i) (λ z. omega arith) (λ z. omega arith) (λ z. omega arith) in
+            λ e. record { estimate = estimateOf (k e) (getD v i nan); n = n e; s = s e } in
             record {
-              row-size = put-size w j (a .settled) (a .code) (a .unsure) number sum kind l h;
-              level-size = lv′ ∙ lv;
-              word = word-put w j (a .settled) (a .code) (a .unsure) number sum kind l h;
-              reference = reference-put w j (a .settled) (a .code) (a .unsure) number sum kind l h v′ x same ∙ eg;
-              word-rest = λ i hi n. word-rest w j (a .settled) (a .code) (a .unsure) number sum kind l h i hi n;
-              reference-rest = λ i hi n. reference-rest w j (a .settled) (a .code) (a .unsure) number sum kind l h i hi n v v′ (rest i n);
+              row-size = three-size w j (4 + j) (8 + j) (a .settled) (a .code) (a .unsure) far farther apart ∙ l;
+              level-size = lv;
+              word = λ e. record { settled = first e; code = second e; unsure = third e };
+              reference = same j h;
+              word-rest = λ i hi n.
+                  let p = word-other i n (λ z. omega arith) (λ z. omega arith) in
+                  let q = word-other (4 + i) (λ z. omega arith) (λ z. n (omega arith)) (λ z. omega arith) in
+                  let r = word-other (8 + i) (λ z. omega arith) (λ z. omega arith) (λ z. n (omega arith)) in
+                  λ e. record { settled = p e; code = q e; unsure = r e };
+              reference-rest = λ i hi n. same i hi;
             };
       }
 
-  pub heard-same : c ≡ false
-      → WordPost w v j a (cond c (average capped (referenceAt w v j) y) (referenceAt w v j)) (putRow w j (a .settled) (a .code) (a .unsure) number sum kind) v
-  unfolding referenceAt
-  heard-same off =
-      heard-by v (getD v j nan) refl refl (λ i n. refl) (cond c (average capped (referenceAt w v j) y) (referenceAt w v j))
-      ((λ i. record { estimate = estimateOf (kind-to i) (getD v j nan); n = number-to i; s = sum-to i }) ∙ sym (ap (λ (b : Bool). cond b (average capped (referenceAt w v j) y) (referenceAt w v j)) off))
-    where
-      kind-to : kind ≡ getD w (20 + j) 0
-      kind-to = kind-is ∙ ap (λ (b : Bool). cond b 1 (getD w (20 + j) 0)) off
+-- ---- a reference is written
 
-      number-to : number ≡ getD w (12 + j) 0
-      number-to = number-is ∙ ap (λ (b : Bool). cond b (capped (getD w (12 + j) 0) 1) (getD w (12 + j) 0)) off
+abbrev withReference : List ℕ → ℕ → Reference → ℕ → List ℕ
+withReference w j b kind = three w (12 + j) (16 + j) (20 + j) (b .n) (b .s) kind
 
-      sum-to : sum ≡ getD w (16 + j) 0
-      sum-to = sum-is ∙ ap (λ (b : Bool). cond b (capped (getD w (16 + j) 0) y) (getD w (16 + j) 0)) off
+module _ (w : List ℕ) (v : List Float) (j : ℕ) (b : Reference) (kind : ℕ) (x : Float) (h : j < 4) where
+  reference-other : (k : ℕ) → (k ≡ 12 + j → ⊥) → (k ≡ 16 + j → ⊥) → (k ≡ 20 + j → ⊥) → getD (withReference w j b kind) k 0 ≡ getD w k 0
+  reference-other = three-other w (12 + j) (16 + j) (20 + j) (b .n) (b .s) kind (λ z. omega arith) (λ z. omega arith) (λ z. omega arith)
 
-  pub heard-more : c ≡ true → (x : Float) → x ≡ averaged (getD v j nan) y
-      → WordPost w v j a (cond c (average capped (referenceAt w v j) y) (referenceAt w v j)) (putRow w j (a .settled) (a .code) (a .unsure) number sum kind) (set v j x)
-  unfolding average referenceAt
-  heard-more on x ex =
+  reference-written : estimateOf kind x ≡ b .estimate → ReferencePost w v j b (withReference w j b kind) (set v j x)
+  unfolding wordAt referenceAt
+  reference-written estimate =
       record {
         result = λ l lv.
-            heard-by (set v j x) x (length-set v j x) (getD-set-same v j x nan (omega arith)) (λ i n. getD-set-other v j i x nan n)
-            (cond c (average capped (referenceAt w v j) y) (referenceAt w v j))
-            (taken ∙ sym (ap (λ (b : Bool). cond b (average capped (referenceAt w v j) y) (referenceAt w v j)) on)) .result l lv;
+            let far : 12 + j ≡ 16 + j → ⊥ = λ z. omega arith in
+            let farther : 12 + j ≡ 20 + j → ⊥ = λ z. omega arith in
+            let apart : 16 + j ≡ 20 + j → ⊥ = λ z. omega arith in
+            let first = three-first w (12 + j) (16 + j) (20 + j) (b .n) (b .s) kind far farther apart (omega arith) in
+            let second = three-second w (12 + j) (16 + j) (20 + j) (b .n) (b .s) kind far farther apart (omega arith) in
+            let third = three-third w (12 + j) (16 + j) (20 + j) (b .n) (b .s) kind far farther apart (omega arith) in
+            let here = getD-set-same v j x nan (omega arith) in
+            let same : (i : ℕ) → i < 4 → wordAt (withReference w j b kind) i ≡ wordAt w i =
+            λ i hi.
+            let p = reference-other i (λ z. omega arith) (λ z. omega arith) (λ z. omega arith) in
+            let q = reference-other (4 + i) (λ z. omega arith) (λ z. omega arith) (λ z. omega arith) in
+            let r = reference-other (8 + i) (λ z. omega arith) (λ z. omega arith) (λ z. omega arith) in
+            λ e. record { settled = p e; code = q e; unsure = r e } in
+            record {
+              row-size = three-size w (12 + j) (16 + j) (20 + j) (b .n) (b .s) kind far farther apart ∙ l;
+              level-size = length-set v j x ∙ lv;
+              word = same j h;
+              reference = (λ e. record { estimate = estimateOf (third e) (here e); n = first e; s = second e }) ∙ (λ e. record { estimate = estimate e; n = b .n; s = b .s });
+              word-rest = λ i hi n. same i hi;
+              reference-rest = λ i hi n.
+                  let p = reference-other (12 + i) (λ z. n (omega arith)) (λ z. omega arith) (λ z. omega arith) in
+                  let q = reference-other (16 + i) (λ z. omega arith) (λ z. n (omega arith)) (λ z. omega arith) in
+                  let r = reference-other (20 + i) (λ z. omega arith) (λ z. omega arith) (λ z. n (omega arith)) in
+                  let y = getD-set-other v j i x nan n in
+                  λ e. record { estimate = estimateOf (r e) (y e); n = p e; s = q e };
+            };
       }
-    where
-      kind-to : kind ≡ 1
-      kind-to = kind-is ∙ ap (λ (b : Bool). cond b 1 (getD w (20 + j) 0)) on
 
-      number-to : number ≡ capped (getD w (12 + j) 0) 1
-      number-to = number-is ∙ ap (λ (b : Bool). cond b (capped (getD w (12 + j) 0) 1) (getD w (12 + j) 0)) on
+  pub put-reference-law : kind ≡ kindOf (b .estimate) → x ≡ level (b .estimate) → ReferencePost w v j b (withReference w j b kind) (set v j x)
+  put-reference-law ek ex =
+      reference-written (ap (λ (k : ℕ). estimateOf k x) ek ∙ ap (estimateOf (kindOf (b .estimate))) ex ∙ estimate-back (b .estimate))
 
-      sum-to : sum ≡ capped (getD w (16 + j) 0) y
-      sum-to = sum-is ∙ ap (λ (b : Bool). cond b (capped (getD w (16 + j) 0) y) (getD w (16 + j) 0)) on
+-- a reference with one more value
+pub took-in : (w : List ℕ) (v : List Float) (j : ℕ) (f g : Reference) (y : ℕ) (w′ : List ℕ) (v′ : List Float) → f ≡ referenceAt w v j → g ≡ average wrapped f y
+    → ReferencePost w v j g w′ v′ → ReferencePost w v j (average wrapped (referenceAt w v j) y) w′ v′
+took-in w v j f g y w′ v′ ef eg = subst (λ (z : Reference). ReferencePost w v j z w′ v′) (eg ∙ ap (λ (z : Reference). average wrapped z y) ef)
 
-      x-to : x ≡ averaged (level (estimateOf (getD w (20 + j) 0) (getD v j nan))) y
-      x-to = ex ∙ ap (λ (z : Float). averaged z y) (sym (level-back (getD w (20 + j) 0) (getD v j nan)))
-
-      taken : _≡_ {A = Reference} (record { estimate = estimateOf kind x; n = number; s = sum }) (average capped (referenceAt w v j) y)
-      taken = λ i. record { estimate = estimateOf (kind-to i) (x-to i); n = number-to i; s = sum-to i }
+-- word and reference, one after the other
+pub put-both : (w : List ℕ) (v : List Float) (j : ℕ) (a : Word) (b : Reference) (w₁ w′ : List ℕ) (v′ : List Float) → WordPost w j a w₁ → ReferencePost w₁ v j b w′ v′ → length w ≡ 24
+    → length v ≡ 4 → Wrote w v j a b w′ v′
+put-both w v j a b w₁ w′ v′ p q l lv =
+    let x = p .result v l lv in
+    let y = q .result (x .row-size) lv in
+    record {
+      row-size = y .row-size;
+      level-size = y .level-size;
+      word = y .word ∙ x .word;
+      reference = y .reference;
+      word-rest = λ i hi n. y .word-rest i hi n ∙ x .word-rest i hi n;
+      reference-rest = λ i hi n. y .reference-rest i hi n ∙ x .reference-rest i hi n;
+    }
 
 -- ---- a place of four rows
 
@@ -349,12 +234,12 @@ pub idle-place : (f m w : List ℕ) (v : List Float) (j : ℕ) → getD f j 0 �
 unfolding placeIn
 idle-place f m w v j h = rw h
 
-pub put-reply-law : (f m w : List ℕ) (v : List Float) (j : ℕ) (r : Reply) (x : ℕ) (w′ : List ℕ) (v′ : List Float) → j < 4 → x ≡ marksNumber (r .marks)
-    → WordPost w v j (r .word) (r .reference) w′ v′ → PutPost f m w v j (record { slot = Open r }) (set f j (f1 r)) (set m j x) w′ v′
-put-reply-law f m w v j r x w′ v′ h ex wrote =
+pub put-reply-law : (f m w : List ℕ) (v : List Float) (j : ℕ) (r : Reply) (x : ℕ) (w₁ w′ : List ℕ) (v′ : List Float) → j < 4 → x ≡ marksNumber (r .marks)
+    → WordPost w j (r .word) w₁ → ReferencePost w₁ v j (r .reference) w′ v′ → PutPost f m w v j (record { slot = Open r }) (set f j (f1 r)) (set m j x) w′ v′
+put-reply-law f m w v j r x w₁ w′ v′ h ex word reference =
     record {
       result = λ on s.
-          let p = wrote .result (s .row) (s .level) in
+          let p = put-both w v j (r .word) (r .reference) w₁ w′ v′ word reference (s .row) (s .level) in
           let q : getD (set f j (f1 r)) j 0 ≡ f1 r = getD-set-same f j (f1 r) 0 (omega (arith, s .f1)) in
           let y : getD (set m j x) j 0 ≡ x = getD-set-same m j x 0 (omega (arith, s .marks)) in
           let z : marksOf (getD (set m j x) j 0) ≡ r .marks = ap marksOf (y ∙ ex) ∙ marks-back (r .marks) in
@@ -401,7 +286,7 @@ movedUp x j =
     record {
       f1 = set (x .f1) j (getD (x .f1) (1 + j) 0);
       marks = set (x .marks) j (getD (x .marks) (1 + j) 0);
-      row = putRow w j (getD w (1 + j) 0) (getD w (5 + j) 0) (getD w (9 + j) 0) (getD w (13 + j) 0) (getD w (17 + j) 0) (getD w (21 + j) 0);
+      row = rowMoved w j;
       level = set (x .level) j (getD (x .level) (1 + j) nan);
       on = set (set (x .on) j (getD (x .on) (1 + j) 0)) (4 + j) (getD (x .on) (5 + j) 0);
     }
@@ -432,12 +317,18 @@ moved-up x j sized h =
     let z₁₂ : 13 + j ≡ 12 + (1 + j) = omega arith in
     let z₁₆ : 17 + j ≡ 16 + (1 + j) = omega arith in
     let z₂₀ : 21 + j ≡ 20 + (1 + j) = omega arith in
+    let last = getD v (1 + j) nan in
+    let word : Word = record { settled = a; code = b; unsure = c } in
+    let reference : Reference = record { estimate = estimateOf f last; n = d; s = e } in
+    let h₄ : j < 4 = omega arith in
+    let wrote =
+    put-both w v j word reference (withWord w j word) (rowMoved w j) (set v j last) (put-word-law w j word h₄)
+    (reference-written (withWord w j word) v j reference f last h₄ refl) lw lv in
     let p =
     same-place (x .f1) (x .marks) w v (y .f1) (y .marks) (y .row) (y .level) j (1 + j) (getD-set-same (x .f1) j (getD (x .f1) (1 + j) 0) 0 (omega arith))
     (getD-set-same (x .marks) j (getD (x .marks) (1 + j) 0) 0 (omega arith))
-    (word-put w j a b c d e f lw (omega arith) ∙ (λ i. record { settled = a; code = getD w (z₄ i) 0; unsure = getD w (z₈ i) 0 }))
-    (reference-put w j a b c d e f lw (omega arith) (y .level) (getD v (1 + j) nan) (getD-set-same v j (getD v (1 + j) nan) nan (omega arith))
-    ∙ (λ i. record { estimate = estimateOf (getD w (z₂₀ i) 0) (getD v (1 + j) nan); n = getD w (z₁₂ i) 0; s = getD w (z₁₆ i) 0 })) in
+    (wrote .word ∙ (λ i. record { settled = a; code = getD w (z₄ i) 0; unsure = getD w (z₈ i) 0 }))
+    (wrote .reference ∙ (λ i. record { estimate = estimateOf (getD w (z₂₀ i) 0) (getD v (1 + j) nan); n = getD w (z₁₂ i) 0; s = getD w (z₁₆ i) 0 })) in
     let g : getD o₂ j 0 ≡ getD o (1 + j) 0 =
     getD-set-other o₁ (4 + j) j (getD o (5 + j) 0) 0 (λ z. omega arith) ∙ getD-set-same o j (getD o (1 + j) 0) 0 (omega arith) in
     let k : getD o₂ (4 + j) 0 ≡ getD o (4 + (1 + j)) 0 = getD-set-same o₁ (4 + j) (getD o (5 + j) 0) 0 (omega arith) ∙ ap (λ (n : ℕ). getD o n 0) z₄ in
@@ -446,16 +337,16 @@ moved-up x j sized h =
           record {
             f1 = length-set (x .f1) j (getD (x .f1) (1 + j) 0) ∙ lf;
             marks = length-set (x .marks) j (getD (x .marks) (1 + j) 0) ∙ lm;
-            row = put-size w j a b c d e f lw (omega arith);
-            level = length-set v j (getD v (1 + j) nan) ∙ lv;
+            row = wrote .row-size;
+            level = wrote .level-size;
             on = length-set o₁ (4 + j) (getD o (5 + j) 0) ∙ lo₁;
           };
       moved = λ i. record { place = p i; cover = g i; phantom = k i };
       rest = λ i hi n.
           let q =
           same-place (x .f1) (x .marks) w v (y .f1) (y .marks) (y .row) (y .level) i i (getD-set-other (x .f1) j i (getD (x .f1) (1 + j) 0) 0 n)
-          (getD-set-other (x .marks) j i (getD (x .marks) (1 + j) 0) 0 n) (word-rest w j a b c d e f lw (omega arith) i hi n)
-          (reference-rest w j a b c d e f lw (omega arith) i hi n v (y .level) (getD-set-other v j i (getD v (1 + j) nan) nan n)) in
+          (getD-set-other (x .marks) j i (getD (x .marks) (1 + j) 0) 0 n) (wrote .word-rest i hi n)
+          (wrote .reference-rest i hi n) in
           let r : getD o₂ i 0 ≡ getD o i 0 =
           getD-set-other o₁ (4 + j) i (getD o (5 + j) 0) 0 (λ z. omega arith) ∙ getD-set-other o j i (getD o (1 + j) 0) 0 n in
           let s : getD o₂ (4 + i) 0 ≡ getD o (4 + i) 0 =

@@ -190,7 +190,7 @@ phantom-by f m w v j u k = go (eqb (getD f j 0) none) refl
         ∙ sym (ap (test (isPhantom u)) (idle-place f m w v j z))
     go false e = sym (ap (test (isPhantom u)) (open-there f m w v j (eqb-false (getD f j 0) none e)))
 
-covers-by-f1 : (f m w : List ℕ) (v : List Float) (j u : ℕ) → u < 70000 → test (covers u) (placeIn f m w v j) ≡ coversFrom (getD f j 0) u
+pub covers-by-f1 : (f m w : List ℕ) (v : List Float) (j u : ℕ) → u < 70000 → test (covers u) (placeIn f m w v j) ≡ coversFrom (getD f j 0) u
 covers-by-f1 f m w v j u k = by-f1 (covers u) (λ q. coversFrom q u) (covers-f1 u) (covers-none u k) f m w v j
 
 pub masked-column : (f m w : List ℕ) (v : List Float) (j t x y : ℕ) → t < 65000 → CoverMask (getD f j 0) t x → PhantomMask (getD f j 0) (eqb (getD m j 0 % 2) 1) t y

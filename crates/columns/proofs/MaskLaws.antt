@@ -1,8 +1,9 @@
 -- The words of ticks: bit n of the five words in a row is a sentence on n, tried for each n; a mask is 64 of these bits.
-use Prim.Native.Nat.{ℕ, zero, suc, _+_, _-_, _/_, _%_, _^_, _≤_, _<_}
+use Prim.Native.Nat.{ℕ, zero, suc, _+_, _-_, _*_, _/_, _%_, _^_, _≤_, _<_}
 use native.Mathlib.Omega.{arith}
 use mathlib.Core.Path.{_≡_, refl, sym, ap, _∙_}
 use mathlib.Core.Bool.{Bool, true, false, not, _&&_, cond, and-false}
+use lib.Bits.{bitOr}
 use lib.Dec.{leb, ltb, eqb}
 use borrow.Author.Tests.{ltb-true, ltb-false, leb-true, leb-false, eqb-true, eqb-false, le-leb, lt-leb, ne-eqb}
 use Rattle.rules.specs.Replies.{position, isPosition}
@@ -253,17 +254,69 @@ no-suspect q t s es = record { at = λ i u l z. zero-bit i ∙ sym (rw es) }
 
 -- ---- one tick
 
--- by d, which is 2 ^ 32 + 1 + u - q: less than 2 ^ 32 before the ticks that are covered, and at least 2 ^ 32 + 256 behind them
-pub covered-by : (q u d g w : ℕ) (r : Bool) → q < 2 ^ 32 → d ≡ u + 4294967297 - q → g ≡ d % 256 + 64 → w ≡ coverWord (g / 64) → r ≡ bit w (g % 64)
-    → (ltb d 4294967552 && (leb 4294967296 d && r)) ≡ coversFrom q u
-covered-by q u d g w r lq ed eg ew er = go (ltb d 4294967552) refl (leb 4294967296 d) refl
+-- by d, which is u + 1 - q in 64 bits: less than 256 at the ticks that are covered, and at least 256 before and behind them
+pub covered-by : (q u d g w : ℕ) (r : Bool) → q < 2 ^ 32 → u < 2 ^ 32 → d < 2 ^ 64 → (d + q) % 2 ^ 64 ≡ u + 1 → g ≡ d % 256 → w ≡ coverWord (g / 64 + 1) → r ≡ bit w (g % 64)
+    → (ltb d 256 && r) ≡ coversFrom q u
+covered-by q u d g w r lq lu ld ed eg ew er = go (ltb d 256) refl (leb q (u + 1)) refl
   where
-    go : (a : Bool) → ltb d 4294967552 ≡ a → (b : Bool) → leb 4294967296 d ≡ b → (a && (b && r)) ≡ coversFrom q u
+    go : (a : Bool) → ltb d 256 ≡ a → (b : Bool) → leb q (u + 1) ≡ b → (a && r) ≡ coversFrom q u
     go true ea true eb =
-        let h = ltb-true d 4294967552 ea in
-        let l = leb-true 4294967296 d eb in
-        er ∙ ap (λ (z : ℕ). bit z (g % 64)) ew ∙ row-is g ∙ covered-bit q u g (omega arith)
-    go true ea false eb = sym (not-covered q u (omega (arith, leb-false 4294967296 d eb)))
-    go false ea b eb =
-        let h = ltb-false d 4294967552 ea in
+        let h = ltb-true d 256 ea in
+        let l = leb-true q (u + 1) eb in
+        let n : g / 64 + 1 ≡ (d + 64) / 64 = omega arith in
+        let m : g % 64 ≡ (d + 64) % 64 = omega arith in
+        er ∙ ap (λ (z : ℕ). bit z (g % 64)) (ew ∙ ap coverWord n) ∙ ap (bit (coverWord ((d + 64) / 64))) m ∙ row-is (d + 64) ∙ covered-bit q u (d + 64) (omega arith)
+    go true ea false eb = absurd (omega (arith, ltb-true d 256 ea, leb-false q (u + 1) eb))
+    go false ea true eb =
+        let h = ltb-false d 256 ea in
+        let l = leb-true q (u + 1) eb in
         sym (covers-as q u (u + 65 - q) (omega arith) ∙ sym (cover-all (u + 65 - q)) ∙ cover-out (u + 65 - q) (omega arith))
+    go false ea false eb = sym (not-covered q u (omega (arith, leb-false q (u + 1) eb)))
+
+-- ---- a reply that opens at tick i of the block
+
+abbrev openCover : ℕ → ℕ
+openCover i = bitOr (0x3803803803803803 * 2 ^ i % 2 ^ 64) (1 * 2 ^ i % 2 ^ 64 / 2)
+
+openCoverTried : ℕ → Bool
+unfolding bit coverAt same
+openCoverTried n = same (bit (openCover (n / 64)) (n % 64)) (coverAt (n % 64 + 65 - n / 64))
+
+open-cover-tried : below 4096 openCoverTried ≡ true
+unfolding below openCoverTried bit
+open-cover-tried = refl
+
+pub open-cover-law : (i q t : ℕ) → i < 64 → t + i ≡ q + 242 → CoverMask q t (openCover i)
+unfolding openCoverTried
+open-cover-law i q t li z =
+    record {
+      at = λ m u lm y.
+          let n = i * 64 + m in
+          let a : n / 64 ≡ i = omega arith in
+          let b : n % 64 ≡ m = omega arith in
+          sym (λ e. bit (openCover (a e)) (b e)) ∙ same-is (bit (openCover (n / 64)) (n % 64)) (coverAt (n % 64 + 65 - n / 64)) (below-at 4096 openCoverTried open-cover-tried n (omega arith))
+          ∙ sym (covers-as q u (n % 64 + 65 - n / 64) (omega arith));
+    }
+
+abbrev openPhantom : ℕ → ℕ
+openPhantom i = 0x7c07c07c07c07c00 * 2 ^ i % 2 ^ 64
+
+openPhantomTried : ℕ → Bool
+unfolding bit phantomAt same
+openPhantomTried n = same (bit (openPhantom (n / 64)) (n % 64)) (phantomAt (n % 64 + 65 - n / 64))
+
+open-phantom-tried : below 4096 openPhantomTried ≡ true
+unfolding below openPhantomTried bit
+open-phantom-tried = refl
+
+pub open-phantom-law : (i q t : ℕ) (s : Bool) → s ≡ true → i < 64 → t + i ≡ q + 242 → PhantomMask q s t (openPhantom i)
+unfolding openPhantomTried
+open-phantom-law i q t s es li z =
+    record {
+      at = λ m u lm y.
+          let n = i * 64 + m in
+          let a : n / 64 ≡ i = omega arith in
+          let b : n % 64 ≡ m = omega arith in
+          sym (λ e. bit (openPhantom (a e)) (b e)) ∙ same-is (bit (openPhantom (n / 64)) (n % 64)) (phantomAt (n % 64 + 65 - n / 64)) (below-at 4096 openPhantomTried open-phantom-tried n (omega arith))
+          ∙ sym (phantoms-as q u (n % 64 + 65 - n / 64) (omega arith)) ∙ ap (λ (x : Bool). phantomFrom x q u) (sym es);
+    }

@@ -56,3 +56,7 @@ pub record PutMasks (f m on : List ℕ) (j t : ℕ) (on′ : List ℕ) : Type 0 
 
 pub record MaskPost (f m on : List ℕ) (j t : ℕ) (on′ : List ℕ) : Type 0 where
   pub result : length on ≡ 8 → PutMasks f m on j t on′
+
+-- the same where the reply opens at tick i of the block
+pub record OpenMaskPost (on : List ℕ) (j i : ℕ) (suspect : Bool) (on′ : List ℕ) : Type 0 where
+  pub result : (f m : List ℕ) (t : ℕ) → t + i ≡ getD f j 0 + 242 → eqb (getD m j 0 % 2) 1 ≡ suspect → MaskPost f m on j t on′

@@ -25,8 +25,13 @@ pub record Wrote (w : List ℕ) (v : List Float) (j : ℕ) (a : Word) (b : Refer
   pub word-rest : (i : ℕ) → i < 4 → (i ≡ j → ⊥) → wordAt w′ i ≡ wordAt w i
   pub reference-rest : (i : ℕ) → i < 4 → (i ≡ j → ⊥) → referenceAt w′ v′ i ≡ referenceAt w v i
 
-pub record WordPost (w : List ℕ) (v : List Float) (j : ℕ) (a : Word) (b : Reference) (w′ : List ℕ) (v′ : List Float) : Type 0 where
-  pub result : length w ≡ 24 → length v ≡ 4 → Wrote w v j a b w′ v′
+-- its word alone
+pub record WordPost (w : List ℕ) (j : ℕ) (a : Word) (w′ : List ℕ) : Type 0 where
+  pub result : (v : List Float) → length w ≡ 24 → length v ≡ 4 → Wrote w v j a (referenceAt w v j) w′ v
+
+-- its reference alone
+pub record ReferencePost (w : List ℕ) (v : List Float) (j : ℕ) (b : Reference) (w′ : List ℕ) (v′ : List Float) : Type 0 where
+  pub result : length w ≡ 24 → length v ≡ 4 → Wrote w v j (wordAt w j) b w′ v′
 
 -- column j becomes the place p; its words of ticks are written apart
 pub record Put (x : Rows) (j : ℕ) (p : Place) (f′ m′ w′ : List ℕ) (v′ : List Float) : Type 0 where

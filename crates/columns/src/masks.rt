@@ -1,5 +1,5 @@
 // Words of 64 ticks: those that a reply covers, and those at which a bracket removes it.
-ghost use Prim.Native.Nat.{_<_};
+ghost use Prim.Native.Nat.{ℕ, _+_, _<_};
 ghost use mathlib.Core.Path.{_≡_};
 ghost use Rattle.columns.specs.Masks.{coverWord, phantomWord, Across, coversFrom, CoverMask, PhantomMask};
 use edges::words::marked;
@@ -78,12 +78,31 @@ pub fn phantom_mask(q: u32, suspect: bool, t: u32) -> u64
     across(a, b, g % 64)
 }
 
-// Whether a reply with F1 at q covers u. The ticks from q-1 to q+254 have d from 2^32 to 2^32+255.
+// The ticks of a block that a reply covers whose F1 is the i-th of them.
+pub fn open_cover(i: u32) -> u64
+    requires { ⌜ i < 64 ⌝ }
+    ensures { λ x. ⌜ ((q t : ℕ) → t + i ≡ q + 242 → CoverMask q t x) ⌝ }
+{
+    (0x3803803803803803 << i) | ((1 << i) >> 1)
+}
+
+// Those at which a bracket removes it.
+pub fn open_phantom(i: u32, suspect: bool) -> u64
+    requires { ⌜ i < 64 ⌝ }
+    ensures { λ x. ⌜ ((q t : ℕ) → t + i ≡ q + 242 → PhantomMask q suspect t x) ⌝ }
+{
+    if !suspect {
+        return 0;
+    }
+    0x7c07c07c07c07c00 << i
+}
+
+// Whether a reply with F1 at q covers u. The ticks from q-1 to q+254 have d from 0 to 255.
 pub fn covered(q: u32, u: u32) -> bool
     ensures { λ r. ⌜ r ≡ coversFrom q u ⌝ }
 {
-    let d = u as u64 + 4294967297 - q as u64;
-    let g = (d % 256 + 64) as u32;
-    let w = cover_word(g / 64);
-    (d < 4294967552) & ((4294967296 <= d) & marked(w, g % 64))
+    let d = std::num::wrapping_sub_u64(u as u64 + 1, q as u64);
+    let g = (d % 256) as u32;
+    let w = cover_word(g / 64 + 1);
+    (d < 256) & marked(w, g % 64)
 }

@@ -1,17 +1,14 @@
 // Columns as numbers: read, written, moved up.
 ghost use Prim.Native.Nat.{_<_};
 ghost use mathlib.Core.Path.{_≡_};
-ghost use mathlib.Core.Bool.{cond};
 ghost use Rattle.rules.specs.declared.Slot.the-variants.{Open};
-ghost use Rattle.rules.specs.Replies.{average};
-ghost use Rattle.replies.specs.Sums.{capped};
+ghost use Rattle.rules.specs.Replies.{average as average′};
+ghost use Rattle.replies.specs.Sums.{wrapped};
 ghost use Rattle.columns.specs.Columns.{marksNumber, marksOf, kindOf, estimateOf, wordAt, referenceAt, placeIn, placesIn};
-ghost use Rattle.columns.specs.Post.{WordPost, PutPost, rowMoved, wordsMoved, MovePost, DropPost};
-use replies::averaged;
+ghost use Rattle.columns.specs.Post.{WordPost, ReferencePost, PutPost, rowMoved, wordsMoved, MovePost, DropPost};
+use replies::average;
 use replies::level_of;
 use replies::pick;
-use replies::plus;
-use replies::wide;
 use rules::Estimate;
 use rules::Marks;
 use rules::Place;
@@ -118,42 +115,38 @@ pub fn place_at(
     }
 }
 
-// Writes the word and the reference of column j.
-pub fn put_word(row: &mut [u16; 24], level: &mut [f64; 4], j: usize, w: Word, f: Reference)
+// Writes the word of column j.
+pub fn put_word(row: &mut [u16; 24], j: usize, w: Word)
     requires { ⌜ j < 4 ⌝ }
-    ensures { λ _. ⌜ WordPost (now (row .entry)) (now (level .entry)) j w f (now (row .exit)) (now (level .exit)) ⌝ }
+    ensures { λ _. ⌜ WordPost (now (row .entry)) j w (now (row .exit)) ⌝ }
+{
+    row[j] = w.settled;
+    row[4 + j] = w.code;
+    row[8 + j] = w.unsure;
+}
+
+// Writes the reference of column j.
+fn put_reference(row: &mut [u16; 24], level: &mut [f64; 4], j: usize, f: Reference)
+    requires { ⌜ j < 4 ⌝ }
+    ensures { λ _. ⌜ ReferencePost (now (row .entry)) (now (level .entry)) j f (now (row .exit)) (now (level .exit)) ⌝ }
 {
     let e = f.estimate;
     let kind = kind_of(e);
     let x = level_of(e);
-    row[j] = w.settled;
-    row[4 + j] = w.code;
-    row[8 + j] = w.unsure;
     row[12 + j] = f.n;
     row[16 + j] = f.s;
     row[20 + j] = kind;
     level[j] = x;
 }
 
-// Writes the word w of column j; if c, its reference takes in the value v.
-pub fn put_heard(row: &mut [u16; 24], level: &mut [f64; 4], j: usize, w: Word, c: bool, v: u8)
+// The reference of column j takes in the value v.
+pub fn take_in(row: &mut [u16; 24], level: &mut [f64; 4], j: usize, v: u8)
     requires { ⌜ j < 4 ⌝ }
-    ensures { λ _. ⌜ WordPost (now (row .entry)) (now (level .entry)) j w (cond c (average capped (referenceAt (now (row .entry)) (now (level .entry)) j) v) (referenceAt (now (row .entry)) (now (level .entry)) j)) (now (row .exit)) (now (level .exit)) ⌝ }
+    ensures { λ _. ⌜ ReferencePost (now (row .entry)) (now (level .entry)) j (average′ wrapped (referenceAt (now (row .entry)) (now (level .entry)) j) v) (now (row .exit)) (now (level .exit)) ⌝ }
 {
-    row[j] = w.settled;
-    row[4 + j] = w.code;
-    row[8 + j] = w.unsure;
-    let n = row[12 + j];
-    row[12 + j] = pick(c, plus(n, 1), n);
-    let s = row[16 + j];
-    let y = wide(v);
-    row[16 + j] = pick(c, plus(s, y), s);
-    row[20 + j] = pick(c, 1, row[20 + j]);
-    if !c {
-        return;
-    }
-    let x = averaged(level[j], v);
-    level[j] = x;
+    let f = reference_at(row, level, j);
+    let g = average(f, v);
+    put_reference(row, level, j, g);
 }
 
 // Writes a reply to column j.
@@ -174,7 +167,8 @@ pub fn put_reply(
     let f = r.reference;
     f1[j] = q.0;
     marks[j] = marks_number(m);
-    put_word(row, level, j, w, f);
+    put_word(row, j, w);
+    put_reference(row, level, j, f);
 }
 
 // Writes a place to column j.

@@ -3,13 +3,13 @@ ghost use Prim.Native.Nat.{_<_, _≤_};
 ghost use mathlib.Core.Path.{_≡_};
 ghost use mathlib.Core.Bool.{_||_, _&&_, not};
 ghost use Rattle.columns.specs.Masks.{coversFrom};
-ghost use Rattle.framing.specs.Post.{DropIfPost, PurgePost, OpenPost, FramePost, BracketPost, freeIn};
-ghost use Rattle.columns.specs.Post.{anyOf, insideFrom, militaryFrom};
+ghost use Rattle.framing.specs.Post.{DropIfPost, PurgePost, OpenPost, FramePost, BracketPost, freeIn, insideIf, anyInside};
+ghost use Rattle.columns.specs.Post.{anyOf, militaryFrom};
 use columns::masks::covered;
 use columns::rows::drop_column;
 use columns::rows::put_reply;
 use edges::words::marked;
-use lanes::put_masks;
+use lanes::put_open_masks;
 use machine::any4;
 use machine::opened_by;
 use machine::tallied;
@@ -62,21 +62,23 @@ fn purge(
     a + (b + (c + d))
 }
 
-// A reply with F1 at q covers u at position 1 to 14.
-fn inside_from(q: u32, u: u32) -> bool
-    ensures { λ r. ⌜ r ≡ insideFrom u q ⌝ }
+// A reply with F1 at q covers u at position 1 to 14, where c says that it covers u: neither so early as position 0, nor so late as 17.
+fn inside_from(c: bool, q: u32, u: u32) -> bool
+    ensures { λ r. ⌜ r ≡ insideIf c u q ⌝ }
 {
-    covered(q, u) & (((q as u64 + 1) < u as u64) & ((u as u64) < q as u64 + 203))
+    let d = std::num::wrapping_sub_u64(u as u64, q as u64 + 2);
+    c & (d < 201)
 }
 
-// An open reply covers u at position 1 to 14.
-fn any_inside(f1: &[u32; 4], u: u32) -> bool
-    ensures { λ r. ⌜ r ≡ anyOf (insideFrom u) (now (f1 .entry)) ⌝ }
+// An open reply covers u, which is tick i of the block, at position 1 to 14.
+fn any_inside(f1: &[u32; 4], on: &[u64; 8], i: u32, u: u32) -> bool
+    requires { ⌜ i < 64 ⌝ }
+    ensures { λ r. ⌜ r ≡ anyInside (now (f1 .entry)) (now (on .entry)) i u ⌝ }
 {
-    let a = inside_from(f1[0], u);
-    let b = inside_from(f1[1], u);
-    let c = inside_from(f1[2], u);
-    let d = inside_from(f1[3], u);
+    let a = inside_from(marked(on[0], i), f1[0], u);
+    let b = inside_from(marked(on[1], i), f1[1], u);
+    let c = inside_from(marked(on[2], i), f1[2], u);
+    let d = inside_from(marked(on[3], i), f1[3], u);
     any4(a, b, c, d)
 }
 
@@ -126,7 +128,7 @@ fn free_column(f1: &[u32; 4]) -> usize
     3
 }
 
-// A reply opens in the first idle column; `covered` says that an open one covers its F1.
+// A reply opens in the first idle column, at tick i of the block; `covered` says that an open one covers its F1.
 fn open_reply(
     f1: &mut [u32; 4],
     marks: &mut [u16; 4],
@@ -136,18 +138,18 @@ fn open_reply(
     covered: bool,
     e: Pulse,
     f2: Pulse,
-    t: u32,
+    i: u32,
 )
-    requires { ⌜ t < 65000 ⌝ }
-    ensures { λ _. ⌜ OpenPost (record { f1 = now (f1 .entry); marks = now (marks .entry); row = now (row .entry); level = now (level .entry); on = now (on .entry) }) covered e f2 t (record { f1 = now (f1 .exit); marks = now (marks .exit); row = now (row .exit); level = now (level .exit); on = now (on .exit) }) ⌝ }
+    requires { ⌜ i < 64 ⌝ }
+    ensures { λ _. ⌜ OpenPost (record { f1 = now (f1 .entry); marks = now (marks .entry); row = now (row .entry); level = now (level .entry); on = now (on .entry) }) covered e f2 i (record { f1 = now (f1 .exit); marks = now (marks .exit); row = now (row .exit); level = now (level .exit); on = now (on .exit) }) ⌝ }
 {
     let u = e.tick;
-    let suspect = any_inside(f1, u.0);
+    let suspect = any_inside(f1, on, i, u.0);
     let military = any_military(f1, u.0);
     let r = opened_by(covered, suspect, military, e, f2);
     let j = free_column(f1);
     put_reply(f1, marks, row, level, j, r);
-    put_masks(f1, marks, on, j, t);
+    put_open_masks(on, j, i, suspect);
 }
 
 // The bracket with F1 at e and F2 at f2, at tick i of the block. The counts after it.
@@ -179,7 +181,7 @@ fn frame(
     if last != 4294967295 {
         return tallied(Fate::Lost, n, c);
     }
-    open_reply(f1, marks, row, level, on, covered, e, f2, t);
+    open_reply(f1, marks, row, level, on, covered, e, f2, i);
     tallied(Fate::Opens, n, c)
 }
 

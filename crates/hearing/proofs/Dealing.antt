@@ -8,7 +8,8 @@ use lib.Dec.{leb, eqb}
 use lib.Bits.{bitAnd, bitOr}
 use lib.ListN.{length, getD}
 use lib.Ieee.{Float, nan}
-use borrow.Author.Tests.{leb-true, eqb-true, eqb-false}
+use lib.Pow.{pow-pos}
+use borrow.Author.Tests.{leb-true, eqb-true, eqb-false, eq-eqb, ne-eqb}
 use Rattle.rules.specs.declared.Marks.{Marks}
 use Rattle.rules.specs.declared.Word.{Word}
 use Rattle.rules.specs.declared.Reference.{Reference}
@@ -21,17 +22,16 @@ use Rattle.rules.specs.Settings.{standard}
 use Rattle.rules.specs.Samples.{bit as digit}
 use Rattle.rules.specs.Replies.{Verdict, f1, position, isPosition, covers, near, level, agrees, verdict, takes, settle, average, heardAt, bitOf}
 use Rattle.rules.proofs.Truth.{impossible, or-left, or-right, and-left}
-use Rattle.replies.specs.Sums.{capped}
-use Rattle.replies.proofs.ReplyLaws.{bit-some}
+use Rattle.replies.specs.Sums.{wrapped}
 use Rattle.machine.specs.Places.{test, testSlot, any3, positionIn, reaches, hearAt, dealt}
 use Rattle.machine.proofs.PlaceLaws.{covers-in, deal-by, deal-quiet}
 use Rattle.edges.specs.Words.{bit}
 use Rattle.edges.proofs.BitLaws.{bit-and, bit-or}
 use Rattle.columns.specs.Columns.{none, marksOf, wordAt, referenceAt, placeIn, placesIn}
 use Rattle.columns.specs.Masks.{coversFrom}
-use Rattle.columns.specs.Post.{WordPost}
+use Rattle.columns.specs.Post.{Wrote, WordPost, ReferencePost}
 use Rattle.hearing.specs.Post.{Heard, HearPost, HearIfPost, twiceIn, whichOf, Dealt, DealPost}
-use Rattle.columns.proofs.ColumnLaws.{level-back, open-there, idle-place}
+use Rattle.columns.proofs.ColumnLaws.{level-back, put-both, open-there, idle-place}
 
 -- ---- the position that covers a tick
 
@@ -66,16 +66,12 @@ near-by q u h = (
   far-off ((u + 1 - q) / 12) (ap isPosition (sym (covers-position q u h)) ∙ h),
 )
 
-pub covering-early : (q u : ℕ) → u < q → coversFrom q u ≡ true → 0 ≡ position q u
-covering-early q u l h =
+-- with d for u + 1 - q in 64 bits
+pub covering-law : (q u d : ℕ) → q < 2 ^ 32 → u < 2 ^ 32 → d < 2 ^ 64 → (d + q) % 2 ^ 64 ≡ u + 1 → coversFrom q u ≡ true → d % 256 / 12 ≡ position q u
+covering-law q u d lq lu ld e h =
     let n = near-by q u h in
-    let z : 0 ≡ (u + 1 - q) / 12 = omega (arith, n .0) in
-    z ∙ sym (covers-position q u h)
-
-pub covering-late : (q u : ℕ) → q ≤ u → coversFrom q u ≡ true → ((u - q) % 256 + 1) / 12 ≡ position q u
-covering-late q u l h =
-    let n = near-by q u h in
-    let z : ((u - q) % 256 + 1) / 12 ≡ (u + 1 - q) / 12 = omega (arith, n .1) in
+    let y : d ≡ u + 1 - q = omega (arith, n .0) in
+    let z : d % 256 / 12 ≡ (u + 1 - q) / 12 = omega (arith, n .1, y) in
     z ∙ sym (covers-position q u h)
 
 -- ---- one column
@@ -85,31 +81,70 @@ in-turn : (t s : Bool) (x y : Reference) → cond (t && s) x y ≡ cond t (cond 
 in-turn true s x y = refl
 in-turn false s x y = refl
 
-module _ (f w : List ℕ) (v : List Float) (j : ℕ) (e : Pulse) (own other : Bool) (k : ℕ) (ek : coversFrom (getD f j 0) (e .tick .0) ≡ true → k ≡ position (getD f j 0) (e .tick .0)) where
-  pub hear-by : (x : Word) → x ≡ wordAt w j → (b : ℕ) → (isPosition k ≡ true → b ≡ cond (takes k (x .settled)) (2 ^ bitOf k) 0) → (code sure : Bool)
-      → code ≡ verdict (e .main) own other .code → sure ≡ verdict (e .main) own other .confidence → (a : Word)
-      → ((t : Bool) (n : ℕ) → b ≡ cond t (2 ^ bitOf n) 0 → a ≡ cond t (settle capped n (record { code = code; confidence = sure }) x) x) → (w′ : List ℕ) (v′ : List Float)
-      → WordPost w v j a (cond (not (eqb b 0) && sure) (average capped (referenceAt w v j) (e .value)) (referenceAt w v j)) w′ v′ → HearPost f w v j e own other w′ v′
-  hear-by x ex b eb code sure ec es a ea w′ v′ p =
+-- a bit that is settled as sure is not 0
+sure-some : (t s : Bool) (n b hit : ℕ) → b ≡ cond t (2 ^ n) 0 → hit ≡ cond s b 0 → not (eqb hit 0) ≡ (t && s)
+sure-some true true n b hit eb eh = ap not (ne-eqb hit 0 (λ z. omega (arith, eb, eh, z, pow-pos n)))
+sure-some true false n b hit eb eh = ap not (eq-eqb hit 0 eh)
+sure-some false true n b hit eb eh = ap not (eq-eqb hit 0 (eh ∙ eb))
+sure-some false false n b hit eb eh = ap not (eq-eqb hit 0 eh)
+
+-- what is not sure is unsure
+unsure-rest : (s : Bool) (b hit : ℕ) → hit ≡ cond s b 0 → b - hit ≡ cond s 0 b
+unsure-rest true b hit e = omega arith
+unsure-rest false b hit e = omega arith
+
+pub sure-most : (s : Bool) (b hit : ℕ) → hit ≡ cond s b 0 → hit ≤ b
+sure-most true b hit e = omega arith
+sure-most false b hit e = omega arith
+
+module _ (f w : List ℕ) (v : List Float) (j : ℕ) (e : Pulse) (own other : Bool) (k : ℕ) (ek : coversFrom (getD f j 0) (e .tick .0) ≡ true → k ≡ position (getD f j 0) (e .tick .0)) (x : Word)
+    (ex : x ≡ wordAt w j) (b : ℕ) (eb : isPosition k ≡ true → b ≡ cond (takes k (x .settled)) (2 ^ bitOf k) 0) (code sure : Bool) (ec : code ≡ verdict (e .main) own other .code)
+    (es : sure ≡ verdict (e .main) own other .confidence) (hit c : ℕ) (eh : hit ≡ cond sure b 0) (ed : c ≡ cond code b 0) (a : Word)
+    (ea : (t : Bool) (n : ℕ) (y : Verdict) → b ≡ cond t (2 ^ bitOf n) 0 → c ≡ cond (y .code) b 0 → b - hit ≡ cond (y .confidence) 0 b → a ≡ cond t (settle wrapped n y x) x) (w₁ : List ℕ)
+    (word : WordPost w j a w₁) where
+  heard-by : (w′ : List ℕ) (v′ : List Float)
+      → (length w ≡ 24 → length v ≡ 4 → Wrote w v j a (cond (not (eqb hit 0)) (average wrapped (referenceAt w v j) (e .value)) (referenceAt w v j)) w′ v′) → HearPost f w v j e own other w′ v′
+  heard-by w′ v′ p =
       record {
         result = λ lw lv c.
-            let h = p .result lw lv in
+            let h = p lw lv in
             let K = position (getD f j 0) (e .tick .0) in
             let T = takes K (wordAt w j .settled) in
             let on : isPosition k ≡ true = ap isPosition (ek c) ∙ sym (covers-from (getD f j 0) (e .tick .0)) ∙ c in
             let fresh : b ≡ cond T (2 ^ bitOf K) 0 = eb on ∙ (λ i. cond (takes (ek c i) (ex i .settled)) (2 ^ bitOf (ek c i)) 0) in
-            let some = bit-some T (bitOf K) b fresh in
+            let some = sure-some T sure (bitOf K) b hit fresh eh in
             record {
               row-size = h .row-size;
               level-size = h .level-size;
-              word = h .word ∙ ea T K fresh ∙ (λ i. cond T (settle capped K (record { code = ec i; confidence = es i }) (ex i)) (ex i));
+              word =
+                  h .word ∙ ea T K (record { code = code; confidence = sure }) fresh ed (unsure-rest sure b hit eh)
+                  ∙ (λ i. cond T (settle wrapped K (record { code = ec i; confidence = es i }) (ex i)) (ex i));
               reference =
-                  h .reference ∙ (λ i. cond (some i && es i) (average capped (referenceAt w v j) (e .value)) (referenceAt w v j))
-                  ∙ in-turn T (verdict (e .main) own other .confidence) (average capped (referenceAt w v j) (e .value)) (referenceAt w v j);
+                  h .reference ∙ (λ i. cond (some i) (average wrapped (referenceAt w v j) (e .value)) (referenceAt w v j))
+                  ∙ in-turn T sure (average wrapped (referenceAt w v j) (e .value)) (referenceAt w v j)
+                  ∙ ap (λ (y : Bool). cond T (cond y (average wrapped (referenceAt w v j) (e .value)) (referenceAt w v j)) (referenceAt w v j)) es;
               word-rest = h .word-rest;
               reference-rest = h .reference-rest;
             };
       }
+
+  -- the reference stays
+  pub heard-unsure : hit ≡ 0 → HearPost f w v j e own other w₁ v
+  heard-unsure z =
+      heard-by w₁ v
+      (λ lw lv.
+      subst (λ (g : Reference). Wrote w v j a g w₁ v)
+      (sym (ap (λ (y : Bool). cond (not y) (average wrapped (referenceAt w v j) (e .value)) (referenceAt w v j)) (eq-eqb hit 0 z))) (word .result v lw lv))
+
+  -- the reference takes in the value
+  pub heard-sure : (hit ≡ 0 → ⊥) → (w′ : List ℕ) (v′ : List Float) → ReferencePost w₁ v j (average wrapped (referenceAt w₁ v j) (e .value)) w′ v′ → HearPost f w v j e own other w′ v′
+  heard-sure z w′ v′ reference =
+      heard-by w′ v′
+      (λ lw lv.
+      subst (λ (g : Reference). Wrote w v j a g w′ v′)
+      (ap (λ (g : Reference). average wrapped g (e .value)) (word .result v lw lv .reference)
+      ∙ sym (ap (λ (y : Bool). cond (not y) (average wrapped (referenceAt w v j) (e .value)) (referenceAt w v j)) (ne-eqb hit 0 z)))
+      (put-both w v j a (average wrapped (referenceAt w₁ v j) (e .value)) w₁ w′ v′ word reference lw lv))
 
 pub hear-not : (c : Bool) (f w : List ℕ) (v : List Float) (j : ℕ) (e : Pulse) (own other : Bool) → c ≡ false → HearIfPost c f w v j e own other w v
 hear-not c f w v j e own other h = record { does = λ z. absurd (impossible (sym z ∙ h)); same-row = λ z. refl; same-level = λ z. refl }
@@ -136,11 +171,11 @@ pub record Step (c : Bool) (f w : List ℕ) (v : List Float) (j : ℕ) (e : Puls
   pub word : c ≡ true
       → wordAt w′ j
       ≡ cond (takes (position (getD f j 0) (e .tick .0)) (wordAt w j .settled))
-      (settle capped (position (getD f j 0) (e .tick .0)) (verdict (e .main) own other) (wordAt w j)) (wordAt w j)
+      (settle wrapped (position (getD f j 0) (e .tick .0)) (verdict (e .main) own other) (wordAt w j)) (wordAt w j)
   pub reference : c ≡ true
       → referenceAt w′ v′ j
       ≡ cond (takes (position (getD f j 0) (e .tick .0)) (wordAt w j .settled))
-      (cond (verdict (e .main) own other .confidence) (average capped (referenceAt w v j) (e .value)) (referenceAt w v j)) (referenceAt w v j)
+      (cond (verdict (e .main) own other .confidence) (average wrapped (referenceAt w v j) (e .value)) (referenceAt w v j)) (referenceAt w v j)
   pub word-same : c ≡ false → wordAt w′ j ≡ wordAt w j
   pub reference-same : c ≡ false → referenceAt w′ v′ j ≡ referenceAt w v j
 
@@ -181,10 +216,10 @@ moved c f w v j e own other w₁ v₁ w₂ v₂ w′ v′ o pw pr qw qr =
     let K = position (getD f j 0) (e .tick .0) in
     let X = verdict (e .main) own other in
     record {
-      word = λ z. qw ∙ o .does z .word ∙ ap (λ (a : Word). cond (takes K (a .settled)) (settle capped K X a) a) pw;
+      word = λ z. qw ∙ o .does z .word ∙ ap (λ (a : Word). cond (takes K (a .settled)) (settle wrapped K X a) a) pw;
       reference = λ z.
           qr ∙ o .does z .reference
-          ∙ (λ i. cond (takes K (pw i .settled)) (cond (X .confidence) (average capped (pr i) (e .value)) (pr i)) (pr i));
+          ∙ (λ i. cond (takes K (pw i .settled)) (cond (X .confidence) (average wrapped (pr i) (e .value)) (pr i)) (pr i));
       word-same = λ z. qw ∙ o .word-same z ∙ pw;
       reference-same = λ z. qr ∙ o .reference-same z ∙ pr;
     }
@@ -204,9 +239,9 @@ takes-none k w h = go (leb 1 k) (leb k 14) (eqb k 17) (not (digit (bitOf k) w)) 
 abbrev replyOf : ℕ → Marks → Word → Reference → Reply
 replyOf q M a g = record { f1 = record { 0 = q }; marks = M; word = a; reference = g }
 
-heard-reply : (q : ℕ) (M : Marks) (a a′ : Word) (g g′ : Reference) (K : ℕ) (X : Verdict) (e : Pulse) (b : Bool) → a′ ≡ cond b (settle capped K X a) a
-    → g′ ≡ cond b (cond (X .confidence) (average capped g (e .value)) g) g
-    → _≡_ {A = Reply} (replyOf q M a′ g′) (cond b (heardAt capped K e X (replyOf q M a g)) (replyOf q M a g))
+heard-reply : (q : ℕ) (M : Marks) (a a′ : Word) (g g′ : Reference) (K : ℕ) (X : Verdict) (e : Pulse) (b : Bool) → a′ ≡ cond b (settle wrapped K X a) a
+    → g′ ≡ cond b (cond (X .confidence) (average wrapped g (e .value)) g) g
+    → _≡_ {A = Reply} (replyOf q M a′ g′) (cond b (heardAt wrapped K e X (replyOf q M a g)) (replyOf q M a g))
 unfolding average
 heard-reply q M a a′ g g′ K X e true ea eg = λ i. record { f1 = record { 0 = q }; marks = M; word = ea i; reference = eg i }
 heard-reply q M a a′ g g′ K X e false ea eg = λ i. record { f1 = record { 0 = q }; marks = M; word = ea i; reference = eg i }
@@ -222,31 +257,31 @@ agrees-open v q M a g = refl
 module _ (f m w : List ℕ) (v : List Float) (j : ℕ) (e : Pulse) (c own other : Bool) (w′ : List ℕ) (v′ : List Float)
     (told : c ≡ test (covers (e .tick .0)) (placeIn f m w v j)) (o : Step c f w v j e own other w′ v′) where
   word-by : (b : Bool) → c ≡ b → isPosition (position (getD f j 0) (e .tick .0)) ≡ b
-      → wordAt w′ j ≡ cond (takes (position (getD f j 0) (e .tick .0)) (wordAt w j .settled)) (settle capped (position (getD f j 0) (e .tick .0)) (verdict (e .main) own other) (wordAt w j)) (wordAt w j)
+      → wordAt w′ j ≡ cond (takes (position (getD f j 0) (e .tick .0)) (wordAt w j .settled)) (settle wrapped (position (getD f j 0) (e .tick .0)) (verdict (e .main) own other) (wordAt w j)) (wordAt w j)
   word-by true e₁ e₂ = o .word e₁
   word-by false e₁ e₂ =
       o .word-same e₁
       ∙ sym
-      (ap (λ (y : Bool). cond y (settle capped (position (getD f j 0) (e .tick .0)) (verdict (e .main) own other) (wordAt w j)) (wordAt w j))
+      (ap (λ (y : Bool). cond y (settle wrapped (position (getD f j 0) (e .tick .0)) (verdict (e .main) own other) (wordAt w j)) (wordAt w j))
       (takes-none (position (getD f j 0) (e .tick .0)) (wordAt w j .settled) e₂))
 
   reference-by : (b : Bool) → c ≡ b → isPosition (position (getD f j 0) (e .tick .0)) ≡ b
       → referenceAt w′ v′ j
       ≡ cond (takes (position (getD f j 0) (e .tick .0)) (wordAt w j .settled))
-      (cond (verdict (e .main) own other .confidence) (average capped (referenceAt w v j) (e .value)) (referenceAt w v j)) (referenceAt w v j)
+      (cond (verdict (e .main) own other .confidence) (average wrapped (referenceAt w v j) (e .value)) (referenceAt w v j)) (referenceAt w v j)
   reference-by true e₁ e₂ = o .reference e₁
   reference-by false e₁ e₂ =
       o .reference-same e₁
       ∙ sym
-      (ap (λ (y : Bool). cond y (cond (verdict (e .main) own other .confidence) (average capped (referenceAt w v j) (e .value)) (referenceAt w v j)) (referenceAt w v j))
+      (ap (λ (y : Bool). cond y (cond (verdict (e .main) own other .confidence) (average wrapped (referenceAt w v j) (e .value)) (referenceAt w v j)) (referenceAt w v j))
       (takes-none (position (getD f j 0) (e .tick .0)) (wordAt w j .settled) e₂))
 
   pub column-heard : (d : Bool) → eqb (getD f j 0) none ≡ d
-      → placeIn f m w′ v′ j ≡ hearAt capped (positionIn (e .tick .0) (placeIn f m w v j)) e (verdict (e .main) own other) (placeIn f m w v j)
+      → placeIn f m w′ v′ j ≡ hearAt wrapped (positionIn (e .tick .0) (placeIn f m w v j)) e (verdict (e .main) own other) (placeIn f m w v j)
   column-heard true d =
       let z = eqb-true (getD f j 0) none d in
       idle-place f m w′ v′ j z
-      ∙ sym (ap (λ (y : Place). hearAt capped (positionIn (e .tick .0) y) e (verdict (e .main) own other) y) (idle-place f m w v j z))
+      ∙ sym (ap (λ (y : Place). hearAt wrapped (positionIn (e .tick .0) y) e (verdict (e .main) own other) y) (idle-place f m w v j z))
   column-heard false d =
       let z = eqb-false (getD f j 0) none d in
       let K = position (getD f j 0) (e .tick .0) in
@@ -256,7 +291,7 @@ module _ (f m w : List ℕ) (v : List Float) (j : ℕ) (e : Pulse) (c own other 
       heard-reply (getD f j 0) (marksOf (getD m j 0)) (wordAt w j) (wordAt w′ j) (referenceAt w v j) (referenceAt w′ v′ j) K (verdict (e .main) own other) e
       (takes K (wordAt w j .settled)) (word-by c refl (sym i)) (reference-by c refl (sym i)) in
       open-there f m w′ v′ j z ∙ (λ k. record { slot = Open (y k) })
-      ∙ sym (ap (λ (y : Place). hearAt capped (positionIn (e .tick .0) y) e (verdict (e .main) own other) y) (open-there f m w v j z))
+      ∙ sym (ap (λ (y : Place). hearAt wrapped (positionIn (e .tick .0) y) e (verdict (e .main) own other) y) (open-there f m w v j z))
 
 -- the column speaks
 pub column-speaks : (f m w : List ℕ) (v : List Float) (j : ℕ) (e : Pulse) (c s : Bool) → c ≡ test (covers (e .tick .0)) (placeIn f m w v j)
@@ -331,7 +366,7 @@ module _ (f w : List ℕ) (v : List Float) (on : List ℕ) (e : Pulse) (i : ℕ)
             let a1 = reaches-less u (placeIn f m w v 1) (sym (k .at 1 (omega arith) .cover i u li z) ∙ sym e1 ∙ or-left c1 (c2 || (c3 || false)) h₁) in
             let a2 = reaches-less u (placeIn f m w v 2) (sym (k .at 2 (omega arith) .cover i u li z) ∙ sym e2 ∙ or-left c2 (c3 || false) h₂) in
             let a3 = reaches-less u (placeIn f m w v 3) (sym (k .at 3 (omega arith) .cover i u li z) ∙ sym e3 ∙ or-left c3 false h₃) in
-            record { row-size = lw; level-size = lv; places = deal-quiet capped standard e (placesIn f m w v) (rw (a0, a1, a2, a3)) };
+            record { row-size = lw; level-size = lv; places = deal-quiet wrapped standard e (placesIn f m w v) (rw (a0, a1, a2, a3)) };
       }
 
   module _ (c0 c1 c2 c3 s0 s1 s2 s3 o0 o1 o2 o3 : Bool) (w₁ w₂ w₃ w₄ : List ℕ) (v₁ v₂ v₃ v₄ : List Float) where
@@ -394,11 +429,11 @@ module _ (f w : List ℕ) (v : List Float) (on : List ℕ) (e : Pulse) (i : ℕ)
           (a2 .reference-rest 3 (omega arith) (λ z. omega arith) ∙ a1 .reference-rest 3 (omega arith) (λ z. omega arith) ∙ a0 .reference-rest 3 (omega arith) (λ z. omega arith))
           refl refl
 
-      dealt-all : placesIn f m w₄ v₄ ≡ dealt capped standard e (placesIn f m w v)
+      dealt-all : placesIn f m w₄ v₄ ≡ dealt wrapped standard e (placesIn f m w v)
       unfolding placesIn
       dealt-all =
           let u = e .tick .0 in
-          deal-by capped standard e (placesIn f m w v) (positionIn u (placeIn f m w v 0)) (positionIn u (placeIn f m w v 1)) (positionIn u (placeIn f m w v 2)) (positionIn u (placeIn f m w v 3)) s0
+          deal-by wrapped standard e (placesIn f m w v) (positionIn u (placeIn f m w v 0)) (positionIn u (placeIn f m w v 1)) (positionIn u (placeIn f m w v 2)) (positionIn u (placeIn f m w v 3)) s0
           s1 s2 s3 o0 o1 o2 o3 (placeIn f m w₄ v₄ 0) (placeIn f m w₄ v₄ 1) (placeIn f m w₄ v₄ 2) (placeIn f m w₄ v₄ 3) refl refl refl refl
           (column-speaks f m w v 0 e c0 s0 k0 (d .t0)) (column-speaks f m w v 1 e c1 s1 k1 (d .t1)) (column-speaks f m w v 2 e c2 s2 k2 (d .t2)) (column-speaks f m w v 3 e c3 s3 k3 (d .t3))
           (d .r0) (d .r1) (d .r2) (d .r3) (column-heard f m w v 0 e c0 s0 o0 w₄ v₄ k0 b0 (eqb (getD f 0 0) none) refl)

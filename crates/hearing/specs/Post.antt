@@ -9,7 +9,7 @@ use lib.Ieee.{Float}
 use Rattle.rules.specs.declared.Pulse.{Pulse}
 use Rattle.rules.specs.Settings.{standard}
 use Rattle.rules.specs.Replies.{f1, position, verdict, takes, settle, average}
-use Rattle.replies.specs.Sums.{capped}
+use Rattle.replies.specs.Sums.{wrapped}
 use Rattle.machine.specs.Places.{dealt}
 use Rattle.columns.specs.Columns.{wordAt, referenceAt, placesIn}
 use Rattle.columns.specs.Masks.{coversFrom, AllMasked}
@@ -20,10 +20,10 @@ pub record Heard (f w : List ℕ) (v : List Float) (j : ℕ) (e : Pulse) (own ot
   pub level-size : length v′ ≡ 4
   pub word : wordAt w′ j
       ≡ cond (takes (position (getD f j 0) (e .tick .0)) (wordAt w j .settled))
-      (settle capped (position (getD f j 0) (e .tick .0)) (verdict (e .main) own other) (wordAt w j)) (wordAt w j)
+      (settle wrapped (position (getD f j 0) (e .tick .0)) (verdict (e .main) own other) (wordAt w j)) (wordAt w j)
   pub reference : referenceAt w′ v′ j
       ≡ cond (takes (position (getD f j 0) (e .tick .0)) (wordAt w j .settled))
-      (cond (verdict (e .main) own other .confidence) (average capped (referenceAt w v j) (e .value)) (referenceAt w v j)) (referenceAt w v j)
+      (cond (verdict (e .main) own other .confidence) (average wrapped (referenceAt w v j) (e .value)) (referenceAt w v j)) (referenceAt w v j)
   pub word-rest : (i : ℕ) → i < 4 → (i ≡ j → ⊥) → wordAt w′ i ≡ wordAt w i
   pub reference-rest : (i : ℕ) → i < 4 → (i ≡ j → ⊥) → referenceAt w′ v′ i ≡ referenceAt w v i
 
@@ -53,7 +53,7 @@ whichOf c1 c2 c3 = cond c1 1 (cond c2 2 (cond c3 3 0))
 pub record Dealt (f m w : List ℕ) (v : List Float) (e : Pulse) (w′ : List ℕ) (v′ : List Float) : Type 0 where
   pub row-size : length w′ ≡ 24
   pub level-size : length v′ ≡ 4
-  pub places : placesIn f m w′ v′ ≡ dealt capped standard e (placesIn f m w v)
+  pub places : placesIn f m w′ v′ ≡ dealt wrapped standard e (placesIn f m w v)
 
 pub record DealPost (f w : List ℕ) (v : List Float) (on : List ℕ) (e : Pulse) (i : ℕ) (w′ : List ℕ) (v′ : List Float) : Type 0 where
   pub result : (m : List ℕ) (t : ℕ) → length w ≡ 24 → length v ≡ 4 → AllMasked t (record { f1 = f; marks = m; row = w; level = v; on = on })

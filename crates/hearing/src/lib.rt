@@ -10,13 +10,15 @@ ghost use Rattle.rules.specs.Settings.{standard};
 ghost use Rattle.machine.specs.Places.{any3 as any3′};
 ghost use Rattle.columns.specs.Masks.{coversFrom};
 ghost use Rattle.hearing.specs.Post.{HearPost, HearIfPost, DealPost, twiceIn, whichOf};
-use columns::rows::put_heard;
+use columns::rows::put_word;
+use columns::rows::take_in;
 use columns::rows::word_at;
 use edges::words::marked;
 use machine::any3;
 use machine::any4;
 use replies::code_of;
 use replies::near;
+use replies::pick;
 use replies::settle_bit;
 use replies::sure_of;
 use rules::Pulse;
@@ -25,10 +27,8 @@ use rules::Pulse;
 fn covering(q: u32, u: u32) -> u32
     ensures { λ k. ⌜ (coversFrom q u ≡ true → k ≡ position′ q u) ⌝ }
 {
-    if u < q {
-        return 0;
-    }
-    ((u - q) % 256 + 1) / 12
+    let d = std::num::wrapping_sub_u64(u as u64 + 1, q as u64);
+    (d % 256 / 12) as u32
 }
 
 // The bit of position k, which covers, where edges settle it and `settled` does not have it; else 0. Position 0 gives bit 15, which the mask clears.
@@ -59,8 +59,13 @@ fn hear(
     let b = fresh_bit(w.settled, k);
     let code = code_of(e.main, own, other);
     let sure = sure_of(e.main, own, other);
-    let x = settle_bit(w, b, code, sure);
-    put_heard(row, level, j, x, (b != 0) & sure, e.value);
+    let hit = pick(sure, b, 0);
+    let x = settle_bit(w, b, pick(code, b, 0), b - hit);
+    put_word(row, j, x);
+    if hit == 0 {
+        return;
+    }
+    take_in(row, level, j, e.value);
 }
 
 fn hear_if(

@@ -2,6 +2,7 @@
 use Prim.Native.Nat.{ℕ, zero, suc, _+_, _%_, _<_}
 use native.Mathlib.Omega.{arith}
 use mathlib.Core.Path.{_≡_, refl, sym, _∙_, subst}
+use mathlib.Core.Bool.{Bool}
 use mathlib.Core.List.{List}
 use lib.Dec.{eqb}
 use lib.ListN.{length, getD, set, length-set}
@@ -9,7 +10,7 @@ use lib.Seq.{getD-set-same, getD-set-other}
 use lib.Ieee.{Float}
 use Rattle.rules.specs.declared.Places.{Places}
 use Rattle.columns.specs.Columns.{placesIn, columnAt}
-use Rattle.columns.specs.Masks.{CoverMask, PhantomMask, Masked, PutMasks, MaskPost}
+use Rattle.columns.specs.Masks.{CoverMask, PhantomMask, Masked, PutMasks, MaskPost, OpenMaskPost}
 use Rattle.columns.specs.Post.{PutPost}
 use Rattle.lanes.specs.Post.{LoadPost, MasksPost}
 use Rattle.columns.proofs.Holding.{masked-column}
@@ -30,6 +31,13 @@ put-masks-law f m on j t x y h c p =
             cover-rest = λ i hi n. getD-set-other on₁ (4 + j) i y 0 (λ e. omega arith) ∙ getD-set-other on j i x 0 n;
             phantom-rest = λ i hi n. getD-set-other on₁ (4 + j) (4 + i) y 0 (λ e. n (omega arith)) ∙ getD-set-other on j (4 + i) x 0 (λ e. omega arith);
           };
+    }
+
+pub open-masks-law : (on : List ℕ) (j i x y : ℕ) (s : Bool) → j < 4 → ((q t : ℕ) → t + i ≡ q + 242 → CoverMask q t x) → ((q t : ℕ) → t + i ≡ q + 242 → PhantomMask q s t y)
+    → OpenMaskPost on j i s (set (set on j x) (4 + j) y)
+open-masks-law on j i x y s h c p =
+    record {
+      result = λ f m t z e. put-masks-law f m on j t x y h (c (getD f j 0) t z) (subst (λ (b : Bool). PhantomMask (getD f j 0) b t y) (sym e) (p (getD f j 0) t z));
     }
 
 -- a column's words, wherever they were written

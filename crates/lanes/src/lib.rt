@@ -1,8 +1,10 @@
 // Places become columns; replies that are over are handed out from them.
 ghost use Prim.Native.Nat.{_<_};
-ghost use Rattle.columns.specs.Masks.{MaskPost};
+ghost use Rattle.columns.specs.Masks.{MaskPost, OpenMaskPost};
 ghost use Rattle.lanes.specs.Post.{LoadPost, MasksPost, HandPost};
 use columns::masks::cover_mask;
+use columns::masks::open_cover;
+use columns::masks::open_phantom;
 use columns::masks::phantom_mask;
 use columns::rows::drop_column;
 use columns::rows::place_at;
@@ -14,7 +16,7 @@ use rules::Places;
 // ---- loading
 
 // Writes the words of column j.
-pub fn put_masks(f1: &[u32; 4], marks: &[u16; 4], on: &mut [u64; 8], j: usize, t: u32)
+fn put_masks(f1: &[u32; 4], marks: &[u16; 4], on: &mut [u64; 8], j: usize, t: u32)
     requires { ⌜ (j < 4) × (t < 65000) ⌝ }
     ensures { λ _. ⌜ MaskPost (now (f1 .entry)) (now (marks .entry)) (now (on .entry)) j t (now (on .exit)) ⌝ }
 {
@@ -22,6 +24,17 @@ pub fn put_masks(f1: &[u32; 4], marks: &[u16; 4], on: &mut [u64; 8], j: usize, t
     let m = marks[j];
     let x = cover_mask(q, t);
     let y = phantom_mask(q, m % 2 == 1, t);
+    on[j] = x;
+    on[4 + j] = y;
+}
+
+// The same for a reply that opens at tick i of the block.
+pub fn put_open_masks(on: &mut [u64; 8], j: usize, i: u32, suspect: bool)
+    requires { ⌜ (j < 4) × (i < 64) ⌝ }
+    ensures { λ _. ⌜ OpenMaskPost (now (on .entry)) j i suspect (now (on .exit)) ⌝ }
+{
+    let x = open_cover(i);
+    let y = open_phantom(i, suspect);
     on[j] = x;
     on[4 + j] = y;
 }

@@ -11,7 +11,7 @@ use Rattle.rules.specs.Settings.{standard}
 use Rattle.rules.specs.Lists.{All}
 use Rattle.rules.specs.Ranges.{Ranged}
 use Rattle.rules.specs.Machine.{State, edgeStep}
-use Rattle.replies.specs.Sums.{capped}
+use Rattle.replies.specs.Sums.{wrapped}
 use Rattle.machine.specs.Places.{stepOn, machineOf}
 
 -- the counts are those of a sweep
@@ -37,6 +37,6 @@ pub record Fits (e : Pulse) (b : Bracket) (s : State) : Type 0 where
 
 pub record EdgePost (m : Machine) (e : Pulse) (b : Bracket) (r : Machine) : Type 0 where
   -- for every machine
-  pub total : r ≡ stepOn capped standard e b m
+  pub total : r ≡ stepOn wrapped standard e b m
   -- for the machine of a state: the machine of the state that the rules give
   pub result : (s : State) → m ≡ machineOf s → Fits e b s → r ≡ machineOf (edgeStep _+_ standard e b s)

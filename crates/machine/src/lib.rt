@@ -1,8 +1,7 @@
 // The machine between pieces: four places in order of F1 with the idle ones last, and the counts. While a piece goes through, the places stand as columns (crate columns).
 ghost use mathlib.Core.Path.{_≡_};
-ghost use Prim.Native.Nat.{_≤_};
 ghost use mathlib.Core.Bool.{_||_, cond};
-ghost use Rattle.replies.specs.Sums.{capped};
+ghost use Rattle.replies.specs.Sums.{wrapped};
 ghost use Rattle.rules.specs.Machine.{start, openedBy, tally};
 ghost use Rattle.machine.specs.Places.{any3 as any3′, noPlaces, machineOf};
 use replies::military;
@@ -89,8 +88,7 @@ pub fn opened_by(covered: bool, suspect: bool, military: bool, e: Pulse, f2: Pul
 }
 
 pub fn tallied(fate: Fate, p: u16, c: Counts) -> Counts
-    requires { ⌜ p ≤ 4 ⌝ }
-    ensures { λ x. ⌜ x ≡ tally capped fate p c ⌝ }
+    ensures { λ x. ⌜ x ≡ tally wrapped fate p c ⌝ }
 {
     let found = plus(c.found, 1);
     match fate {

@@ -25,7 +25,7 @@ use Rattle.rules.proofs.Printed.{brackets-most}
 use Rattle.rules.proofs.Settled.{edge-timed}
 use Rattle.rules.proofs.Skipping.{visit}
 use Rattle.rules.proofs.EachReply.{value-byte, framing, framed-byte, ranged-each}
-use Rattle.replies.specs.Sums.{capped}
+use Rattle.replies.specs.Sums.{wrapped}
 use Rattle.machine.specs.Places.{any3, dealt, bracketIf, stepOn, placed, machineOf}
 use Rattle.machine.proofs.Steps.{balanced-small, edge-post}
 use Rattle.machine.specs.Post.{Small, f2Value, Fits, EdgePost}
@@ -128,14 +128,14 @@ module _ (x : Rows) (c : Counts) (s : Span) (i t : ℕ) (recent : List ℕ) (bas
       let four₁ : length l₁ ≤ 4 = omega (arith, q .four, reject-short (ended u) (S .live)) in
       let y = h .brackets .result (kept .sized) m₁ z (f2-low s i u recent base values lu) l₁ (g .places) four₁ in
       let d = h .deals .result (x₂ .marks) t (y .sized .row) (y .sized .level) (y .masked) z in
-      let n = bracketIf capped P B (machineAt x₁ c) in
-      let step : machineAt left c′ ≡ stepOn capped standard P B (machineAt x₁ c) =
-      λ a. record { places = (d .places ∙ (λ f. dealt capped standard P (y .machine f .places))) a; counts = y .machine a .counts } in
+      let n = bracketIf wrapped P B (machineAt x₁ c) in
+      let step : machineAt left c′ ≡ stepOn wrapped standard P B (machineAt x₁ c) =
+      λ a. record { places = (d .places ∙ (λ f. dealt wrapped standard P (y .machine f .places))) a; counts = y .machine a .counts } in
       let is₁ : machineAt x₁ c ≡ machineOf (retired u S) = λ a. record { places = g .places a; counts = is a .counts } in
       let p = span-pulse T s t (sh .spanned) recent base values (sh .reads) i u li z in
       let o = span-bracket T s t (sh .spanned) recent base values (sh .reads) i u li z in
       let post : EdgePost (machineAt x₁ c) (E u .pulse) (bracketAt standard E u) (machineAt left c′) =
-      edge-post (machineAt x₁ c) (E u .pulse) (bracketAt standard E u) (machineAt left c′) (step ∙ (λ a. stepOn capped standard (p a) (o a) (machineAt x₁ c))) in
+      edge-post (machineAt x₁ c) (E u .pulse) (bracketAt standard E u) (machineAt left c′) (step ∙ (λ a. stepOn wrapped standard (p a) (o a) (machineAt x₁ c))) in
       record {
         gives =
             record {

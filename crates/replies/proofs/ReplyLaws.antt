@@ -1,28 +1,41 @@
 -- What the code computes of a reply is what the rules say: tests by ticks, code and confidence, constants, settling.
-use Prim.Native.Nat.{ℕ, _+_, _^_, _≤_}
+use Prim.Native.Nat.{ℕ, _+_, _-_, _%_, _^_, _≤_, _<_}
 use native.Mathlib.Omega.{arith}
 use mathlib.Core.Path.{_≡_, refl, sym, ap, _∙_}
 use mathlib.Core.Bool.{Bool, true, false, not, _&&_, _||_, cond}
 use lib.Dec.{leb, ltb, eqb}
-use lib.Pow.{pow-pos}
 use lib.IntN.{negsuc}
-use lib.Ieee.{fin, binary64, ofBits}
-use borrow.Author.Tests.{eq-eqb, ne-eqb}
+use lib.Ieee.{Float, fin, binary64, ofBits}
+use borrow.Author.Tests.{leb-true, leb-false, le-leb, lt-leb, lt-ltb, le-ltb}
 use Rattle.rules.specs.declared.Reply.{Reply}
 use Rattle.rules.specs.declared.Word.{Word}
-use Rattle.rules.specs.Replies.{f1, ended, military, number, verdict, bitOf, settle}
-use Rattle.replies.specs.Sums.{capped}
+use Rattle.rules.specs.declared.Reference.{Reference}
+use Rattle.rules.specs.declared.Estimate.the-variants.{Average}
+use Rattle.rules.specs.Replies.{Verdict, f1, ended, military, number, level, averaged, average, verdict, bitOf, settle}
+use Rattle.replies.specs.Sums.{wrapped}
 
 -- ---- tests by ticks
+
+-- with d for u - a in 64 bits: a ≤ u ≤ a + n
+pub within : (a u d n : ℕ) → a < 2 ^ 40 → u < 2 ^ 40 → n < 2 ^ 40 → d < 2 ^ 64 → (d + a) % 2 ^ 64 ≡ u → ltb d (n + 1) ≡ leb a u && leb u (a + n)
+within a u d n la lu ln ld w = go (leb a u) refl (leb u (a + n)) refl
+  where
+    go : (x : Bool) → leb a u ≡ x → (y : Bool) → leb u (a + n) ≡ y → ltb d (n + 1) ≡ x && y
+    go true h true k = lt-ltb d (n + 1) (omega (arith, leb-true a u h, leb-true u (a + n) k))
+    go true h false k = le-ltb d (n + 1) (omega (arith, leb-true a u h, leb-false u (a + n) k))
+    go false h y k = le-ltb d (n + 1) (omega (arith, leb-false a u h))
 
 module _ (q u : ℕ) (r : Reply) (e : f1 r ≡ q) where
   pub ended-is : ltb (q + 205) u ≡ ended u r
   unfolding ended
   ended-is = ap (λ (y : ℕ). ltb (y + 205) u) (sym e)
 
-  pub military-is : leb (q + 203) u && leb u (q + 205) ≡ military u r
+  pub military-is : (d : ℕ) → q < 2 ^ 32 → u < 2 ^ 32 → d < 2 ^ 64 → (d + (q + 203)) % 2 ^ 64 ≡ u → ltb d 3 ≡ military u r
   unfolding military
-  military-is = ap (λ (y : ℕ). leb (y + 203) u && leb u (y + 205)) (sym e)
+  military-is d lq lu ld w =
+      let z : q + 203 + 2 ≡ q + 205 = omega arith in
+      within (q + 203) u d 2 (omega arith) (omega arith) (omega arith) ld w ∙ ap (λ (y : ℕ). leb (q + 203) u && leb u y) z
+      ∙ ap (λ (y : ℕ). leb (y + 203) u && leb u (y + 205)) (sym e)
 
 -- ---- code and confidence
 
@@ -50,41 +63,47 @@ pub half : ofBits binary64 0x3fe0000000000000 ≡ fin false 1 (negsuc 0)
 unfolding ofBits
 half = refl
 
+-- ---- averaging
+
+pub average-is : (f : Reference) (v : ℕ) (x y : Float) (n s t : ℕ) → y ≡ level (f .estimate) → x ≡ averaged y v → n ≡ wrapped (f .n) 1 → t ≡ v → s ≡ wrapped (f .s) t
+    → _≡_ {A = Reference} (record { estimate = Average x; n = n; s = s }) (average wrapped f v)
+unfolding average
+average-is f v x y n s t ey ex en et es =
+    let e = ex ∙ ap (λ (z : Float). averaged z v) ey in
+    let d = es ∙ ap (wrapped (f .s)) et in
+    λ i. record { estimate = Average (e i); n = en i; s = d i }
+
 -- ---- settling
 
--- a bit is not 0
-pub bit-some : (t : Bool) (n b : ℕ) → b ≡ cond t (2 ^ n) 0 → not (eqb b 0) ≡ t
-bit-some true n b e = ap not (ne-eqb b 0 (λ z. omega (arith, e, z, pow-pos n)))
-bit-some false n b e = ap not (eq-eqb b 0 e)
+no-choice : (b : Bool) → cond {A = ℕ} b 0 0 ≡ 0
+no-choice true = refl
+no-choice false = refl
 
-pub settle-bit-law : (t : Bool) (k b : ℕ) (code sure : Bool) (w : Word) → b ≡ cond t (2 ^ bitOf k) 0
-    → _≡_ {A = Word}
-    (record {
-      settled = cond (not (eqb b 0)) (capped (w .settled) b) (w .settled);
-      code = cond (not (eqb b 0)) (capped (w .code) (cond code b 0)) (w .code);
-      unsure = cond (not (eqb b 0)) (capped (w .unsure) (cond sure 0 b)) (w .unsure);
-    })
-    (cond t (settle capped k (record { code = code; confidence = sure }) w) w)
-settle-bit-law t k b code sure w e =
-    let g = bit-some t (bitOf k) b e in
-    (λ i. record {
-      settled = cond (g i) (capped (w .settled) (e i)) (w .settled);
-      code = cond (g i) (capped (w .code) (cond code (e i) 0)) (w .code);
-      unsure = cond (g i) (capped (w .unsure) (cond sure 0 (e i))) (w .unsure);
-    })
-    ∙ go t
-  where
-    go : (y : Bool)
-        → _≡_ {A = Word}
-        (record {
-          settled = cond y (capped (w .settled) (cond y (2 ^ bitOf k) 0)) (w .settled);
-          code = cond y (capped (w .code) (cond code (cond y (2 ^ bitOf k) 0) 0)) (w .code);
-          unsure = cond y (capped (w .unsure) (cond sure 0 (cond y (2 ^ bitOf k) 0))) (w .unsure);
-        })
-        (cond y (settle capped k (record { code = code; confidence = sure }) w) w)
-    go true = refl
-    go false = refl
+add-none : (a x : ℕ) → a < 65536 → x ≡ 0 → wrapped a x ≡ a
+add-none a x h e = omega arith
 
-pub cond-most : (b : Bool) (x y n : ℕ) → x ≤ n → y ≤ n → cond b x y ≤ n
-cond-most true x y n h k = h
-cond-most false x y n h k = k
+module _ (t : Bool) (k : ℕ) (v : Verdict) (b c n : ℕ) (w : Word) (x y z : ℕ) (ls : w .settled < 65536) (lc : w .code < 65536) (lu : w .unsure < 65536) where
+  pub settle-law : x ≡ wrapped (w .settled) b → y ≡ wrapped (w .code) c → z ≡ wrapped (w .unsure) n → b ≡ cond t (2 ^ bitOf k) 0 → c ≡ cond (v .code) b 0
+      → n ≡ cond (v .confidence) 0 b → _≡_ {A = Word} (record { settled = x; code = y; unsure = z }) (cond t (settle wrapped k v w) w)
+  settle-law ex ey ez eb ec en =
+      (λ i. record {
+        settled = (ex ∙ ap (wrapped (w .settled)) eb) i;
+        code = (ey ∙ ap (wrapped (w .code)) (ec ∙ ap (λ (p : ℕ). cond (v .code) p 0) eb)) i;
+        unsure = (ez ∙ ap (wrapped (w .unsure)) (en ∙ ap (λ (p : ℕ). cond (v .confidence) 0 p) eb)) i;
+      })
+      ∙ go t
+    where
+      go : (s : Bool)
+          → _≡_ {A = Word}
+          (record {
+            settled = wrapped (w .settled) (cond s (2 ^ bitOf k) 0);
+            code = wrapped (w .code) (cond (v .code) (cond s (2 ^ bitOf k) 0) 0);
+            unsure = wrapped (w .unsure) (cond (v .confidence) 0 (cond s (2 ^ bitOf k) 0));
+          })
+          (cond s (settle wrapped k v w) w)
+      go true = refl
+      go false = λ i. record {
+        settled = add-none (w .settled) 0 ls refl i;
+        code = add-none (w .code) (cond (v .code) 0 0) lc (no-choice (v .code)) i;
+        unsure = add-none (w .unsure) (cond (v .confidence) 0 0) lu (no-choice (v .confidence)) i;
+      }

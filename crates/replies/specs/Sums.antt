@@ -1,5 +1,5 @@
--- Sums in 16 bits that cannot overflow: for b up to 32,768. Below 32,768 the sum is that of the rules.
+-- Sums in 16 bits. Where a + b is below 65,536 this is the sum of the rules.
 use Prim.Native.Nat.{ℕ, _+_, _%_}
 
-abbrev pub capped : ℕ → ℕ → ℕ
-capped a b = a % 32768 + b
+abbrev pub wrapped : ℕ → ℕ → ℕ
+wrapped a b = (a + b) % 65536

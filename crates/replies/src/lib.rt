@@ -2,20 +2,20 @@
 ghost use mathlib.Core.Path.{_≡_};
 ghost use Prim.Native.Nat.{ℕ, _^_, _≤_, _<_};
 ghost use mathlib.Core.Bool.{Bool, cond};
-ghost use Rattle.replies.specs.Sums.{capped};
+ghost use Rattle.replies.specs.Sums.{wrapped};
 ghost use Rattle.rules.specs.declared.Reply.{Reply};
 ghost use Rattle.rules.specs.Settings.{standard};
-ghost use Rattle.rules.specs.Replies.{f1, ended as ended′, military as military′, level, near as near′, averaged as averaged′, verdict, bitOf, settle};
+ghost use Rattle.rules.specs.Replies.{Verdict, f1, ended as ended′, military as military′, level, near as near′, averaged as averaged′, average as average′, verdict, bitOf, settle};
 use rules::Estimate;
+use rules::Reference;
 use rules::Reply;
 use rules::Word;
 
-// The sum of two numbers, of which the second is small.
+// The sum in 16 bits.
 pub fn plus(a: u16, b: u16) -> u16
-    requires { ⌜ b ≤ 16384 ⌝ }
-    ensures { λ r. ⌜ r ≡ capped a b ⌝ }
+    ensures { λ r. ⌜ r ≡ wrapped a b ⌝ }
 {
-    a % 32768 + b
+    std::num::wrapping_add_u16(a, b)
 }
 
 // At tick u a reply with F1 at q is no longer open.
@@ -29,7 +29,7 @@ pub fn ended(q: u32, u: u32) -> bool
 pub fn military(q: u32, u: u32) -> bool
     ensures { λ x. ⌜ ((r : Reply) → f1 r ≡ q → x ≡ military′ u r) ⌝ }
 {
-    (q as u64 + 203 <= u as u64) & (u as u64 <= q as u64 + 205)
+    std::num::wrapping_sub_u64(u as u64, q as u64 + 203) < 3
 }
 
 pub fn level_of(e: Estimate) -> f64
@@ -62,6 +62,21 @@ pub fn averaged(x: f64, v: u8) -> f64
     (x + v as f64) * 0.5
 }
 
+// The reference with one more value.
+pub fn average(f: Reference, v: u8) -> Reference
+    ensures { λ r. ⌜ r ≡ average′ wrapped f v ⌝ }
+{
+    let e = f.estimate;
+    let x = averaged(level_of(e), v);
+    let n = plus(f.n, 1);
+    let s = plus(f.s, wide(v));
+    Reference {
+        estimate: Estimate::Average(x),
+        n,
+        s,
+    }
+}
+
 // The code of a position, by whether the edge has M, agrees with the reply's own reference, and with another's.
 pub fn code_of(main: bool, own: bool, other: bool) -> bool
     ensures { λ r. ⌜ r ≡ verdict main own other .code ⌝ }
@@ -85,20 +100,13 @@ pub fn pick(c: bool, a: u16, b: u16) -> u16
     b
 }
 
-// The word with a position settled whose bit is b; with b 0 the word as it is.
-pub fn settle_bit(w: Word, b: u16, code: bool, sure: bool) -> Word
-    requires { ⌜ b ≤ 16384 ⌝ }
-    ensures { λ r. ⌜ ((t : Bool) (k : ℕ) → b ≡ cond t (2 ^ bitOf k) 0 → r ≡ cond t (settle capped k (record { code = code; confidence = sure }) w) w) ⌝ }
+// The word with a position settled whose bit is b, with c for the code and n for unsure; with 0 for all three the word as it is.
+pub fn settle_bit(w: Word, b: u16, c: u16, n: u16) -> Word
+    ensures { λ r. ⌜ ((t : Bool) (k : ℕ) (v : Verdict) → b ≡ cond t (2 ^ bitOf k) 0 → c ≡ cond (v .code) b 0 → n ≡ cond (v .confidence) 0 b → r ≡ cond t (settle wrapped k v w) w) ⌝ }
 {
-    let go = b != 0;
-    let c = pick(code, b, 0);
-    let n = pick(sure, 0, b);
-    let x = plus(w.settled, b);
-    let y = plus(w.code, c);
-    let z = plus(w.unsure, n);
     Word {
-        settled: pick(go, x, w.settled),
-        code: pick(go, y, w.code),
-        unsure: pick(go, z, w.unsure),
+        settled: plus(w.settled, b),
+        code: plus(w.code, c),
+        unsure: plus(w.unsure, n),
     }
 }

@@ -24,7 +24,7 @@ use Rattle.rules.proofs.Ones.{ones-add, ones-most, add-below}
 use Rattle.rules.proofs.References.{number-exact, averaged-bound, averaged-exact, reference-range}
 
 -- either of two numbers, both at most n
-cond-most : (b : Bool) (x y n : ℕ) → x ≤ n → y ≤ n → cond b x y ≤ n
+pub cond-most : (b : Bool) (x y n : ℕ) → x ≤ n → y ≤ n → cond b x y ≤ n
 cond-most true x y n h k = h
 cond-most false x y n h k = k
 
@@ -81,7 +81,7 @@ or-first true h = refl
 or-first false h = h
 
 -- a position that is taken has one of the 15 bits
-takes-bit : (k w : ℕ) → takes k w ≡ true → bitOf k < 15
+pub takes-bit : (k w : ℕ) → takes k w ≡ true → bitOf k < 15
 takes-bit k w h = go (eqb k 17) (and-both (isInside k || eqb k 17) (not (bit (bitOf k) w)) h .0)
   where
     go : (b : Bool) → isInside k || b ≡ true → cond b 14 (k - 1) < 15

@@ -8,36 +8,36 @@ use Rattle.columns.proofs.rows.put_reply.Reads as put-reply-reads
 use Rattle.framing.proofs.any_inside.Reads as any-inside-reads
 use Rattle.framing.proofs.any_military.Reads as any-military-reads
 use Rattle.framing.proofs.free_column.Reads as free-column-reads
-use Rattle.lanes.proofs.put_masks.Reads as put-masks-reads
+use Rattle.lanes.proofs.put_open_masks.Reads as put-open-masks-reads
 use Rattle.machine.proofs.opened_by.Reads as opened-by-reads
 
--- src/steps.rt:253:9
+-- src/lib.rt:147:9
 any-inside-requires : tie.Need-any-inside-requires
 any-inside-requires c κs = search needs
 
--- src/steps.rt:254:9
+-- src/lib.rt:148:9
 any-military-requires : tie.Need-any-military-requires
 any-military-requires c κs = search needs
 
--- src/steps.rt:255:9
+-- src/lib.rt:149:9
 opened-by-requires : tie.Need-opened-by-requires
 opened-by-requires c κs = search needs
 
--- src/steps.rt:256:9
+-- src/lib.rt:150:9
 free-column-requires : tie.Need-free-column-requires
 free-column-requires c κs = search needs
 
--- src/steps.rt:257:5
+-- src/lib.rt:151:5
 put-reply-requires : tie.Need-put-reply-requires
 put-reply-requires c κs = search needs
 
--- src/steps.rt:258:5
-put-masks-requires : tie.Need-put-masks-requires
-put-masks-requires c κs = search needs
+-- src/lib.rt:152:5
+put-open-masks-requires : tie.Need-put-open-masks-requires
+put-open-masks-requires c κs = search needs
 
--- src/steps.rt:238:1
+-- src/lib.rt:132:1
 returns : tie.Need-returns
-returns c = open-law (record { f1 = c .before .before .before .before .before .before .before .before .before .before .before .before .before .before .before .before .before .args .f1 .now; marks = c .before .before .before .before .before .before .before .before .before .before .before .before .before .before .before .before .before .args .marks .now; row = c .before .before .before .before .before .before .before .before .before .before .before .before .before .before .before .before .before .args .row .now; level = c .before .before .before .before .before .before .before .before .before .before .before .before .before .before .before .before .before .args .level .now; on = c .before .before .before .before .before .before .before .before .before .before .before .before .before .before .before .before .before .args .on .now }) (c .before .before .before .before .before .before .before .before .before .before .before .before .before .before .before .before .before .args .covered) _ _ (c .before .before .before .before .before .before .before .before .before .before .before .before .before .before .before .before .before .args .e) (c .before .before .before .before .before .before .before .before .before .before .before .before .before .before .before .before .before .args .f2) (c .before .before .before .before .before .before .before .before .before .before .before .before .before .before .before .before .before .args .t) _ _ _ _ _ _ _ (c .before .before .before .before .before .before .before .before .before .before .before .before .before .before .before .before .before .pre) (c .before .before .before .before .before .before .before .before .before .free-column .ensures .1) (c .before .before .before .before .before .before .before .before .before .before .before .before .before .before .any-inside .ensures) (c .before .before .before .before .before .before .before .before .before .before .before .before .any-military .ensures) (c .before .before .before .before .before .before .before .before .before .before .before .opened-by .ensures) (c .before .before .before .before .before .before .before .before .before .free-column .ensures .0) (c .before .before .before .before .put-reply .ensures) (c .put-masks .ensures)
+returns c = open-law (record { f1 = c .before .before .before .before .before .before .before .before .before .before .before .before .before .before .before .before .args .f1 .now; marks = c .before .before .before .before .before .before .before .before .before .before .before .before .before .before .before .before .args .marks .now; row = c .before .before .before .before .before .before .before .before .before .before .before .before .before .before .before .before .args .row .now; level = c .before .before .before .before .before .before .before .before .before .before .before .before .before .before .before .before .args .level .now; on = c .before .before .before .before .before .before .before .before .before .before .before .before .before .before .before .before .args .on .now }) (c .before .before .before .before .before .before .before .before .before .before .before .before .before .before .before .before .args .covered) _ _ (c .before .before .before .before .before .before .before .before .before .before .before .before .before .before .before .before .args .e) (c .before .before .before .before .before .before .before .before .before .before .before .before .before .before .before .before .args .f2) (c .before .before .before .before .before .before .before .before .before .before .before .before .before .before .before .before .args .i) _ _ _ _ _ _ _ (c .before .before .before .before .before .before .before .before .before .before .before .before .before .before .before .before .pre) (c .before .before .before .before .before .before .before .free-column .ensures .1) (c .before .before .before .before .before .before .before .before .before .before .before .before .any-inside .ensures) (c .before .before .before .before .before .before .before .before .before .before .any-military .ensures) (c .before .before .before .before .before .before .before .before .before .opened-by .ensures) (c .before .before .before .before .before .before .before .free-column .ensures .0) (c .before .before .put-reply .ensures) (c .put-open-masks .ensures)
 
 pub open-reply-spec : {M : Type 1} → statement M
 open-reply-spec =
@@ -48,5 +48,5 @@ open-reply-spec =
     opened-by-requires
     free-column-requires
     put-reply-requires
-    put-masks-requires
+    put-open-masks-requires
     returns)

@@ -1,21 +1,28 @@
-use Rattle.hearing.proofs.Dealing.{covering-early, covering-late}
+use Rattle.hearing.proofs.Dealing.{covering-law}
+use native.Mathlib.Omega.{arith}
 use borrow.Author.Needs.{needs}
 use Rattle.hearing.proofs.covering.Statement.{statement}
 use Rattle.hearing.proofs.covering.Tie as tie
 use Rattle.hearing.proofs.covering.Reads as reads
 use Rattle.hearing.proofs.covering.Lts as lts
+use Rattle.std.proofs.num.wrapping_sub_u64.Reads as wrapping-sub-u64-reads
 
--- src/steps.rt:322:9
+-- src/lib.rt:30:40
+add-wrapping-sub-u64 : tie.Need-add-wrapping-sub-u64
+add-wrapping-sub-u64 c = search needs
+
+-- src/lib.rt:30:9
+wrapping-sub-u64-requires : tie.Need-wrapping-sub-u64-requires
+wrapping-sub-u64-requires c κs = search needs
+
+-- src/lib.rt:31:5
+cast-result : tie.Need-cast-result
+cast-result c = search needs
+
+-- src/lib.rt:27:1
 returns : tie.Need-returns
-returns c = λ h. covering-early (c .before .args .q) (c .before .args .u) (c .if1 .taken) h
-
--- src/steps.rt:324:6
-add-result : tie.Need-add-result
-add-result c = search needs
-
--- src/steps.rt:318:1
-returns-2 : tie.Need-returns-2
-returns-2 c = λ h. covering-late (c .before .args .q) (c .before .args .u) (c .if1 .left) h
+returns c = λ h. covering-law (c .before .args .q) (c .before .args .u) (c .wrapping-sub-u64 .result) (omega arith) (omega arith) (omega arith) (c .wrapping-sub-u64 .ensures) h
 
 pub covering-spec : {M : Type 1} → statement M
-covering-spec = tie.close (tie.spec returns add-result returns-2)
+covering-spec =
+    tie.close (tie.spec add-wrapping-sub-u64 wrapping-sub-u64-requires cast-result returns)

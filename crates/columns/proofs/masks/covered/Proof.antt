@@ -4,30 +4,48 @@ use mathlib.Core.Path.{refl}
 use borrow.Author.Needs.{needs}
 use Rattle.columns.proofs.masks.covered.Statement.{statement}
 use Rattle.columns.proofs.masks.covered.Tie as tie
+use Rattle.columns.proofs.masks.covered.Reads as reads
+use Rattle.columns.proofs.masks.covered.Lts as lts
+use Rattle.columns.proofs.masks.cover_word.Reads as cover-word-reads
+use Rattle.edges.proofs.words.marked.Reads as marked-reads
+use Rattle.std.proofs.num.wrapping_sub_u64.Reads as wrapping-sub-u64-reads
 
-add-d : tie.Need-add-d
-add-d c = search needs
+-- src/masks.rt:85:40
+add-wrapping-sub-u64 : tie.Need-add-wrapping-sub-u64
+add-wrapping-sub-u64 c = search needs
 
-sub-d : tie.Need-sub-d
-sub-d c = search needs
+-- src/masks.rt:85:9
+wrapping-sub-u64-requires : tie.Need-wrapping-sub-u64-requires
+wrapping-sub-u64-requires c κs = search needs
 
-add-g : tie.Need-add-g
-add-g c = search needs
-
+-- src/masks.rt:86:13
 cast-g : tie.Need-cast-g
 cast-g c = search needs
 
+-- src/masks.rt:87:24
+add-cover-word : tie.Need-add-cover-word
+add-cover-word c = search needs
+
+-- src/masks.rt:87:9
 cover-word-requires : tie.Need-cover-word-requires
 cover-word-requires c κs = search needs
 
+-- src/masks.rt:88:17
 marked-requires : tie.Need-marked-requires
 marked-requires c κs = search needs
 
+-- src/masks.rt:82:1
 returns : tie.Need-returns
-returns c =
-    let args = c .before .before .args in
-    covered-by (args .q) (args .u) _ _ _ _ (omega arith) refl refl (c .before .cover-word .ensures) (c .marked .ensures)
+returns c = covered-by (c .before .before .before .args .q) (c .before .before .before .args .u) (c .before .before .wrapping-sub-u64 .result) _ _ _ (omega arith) (omega arith) (omega arith) (c .before .before .wrapping-sub-u64 .ensures) refl (c .before .cover-word .ensures) (c .marked .ensures)
 
 pub covered-spec : {M : Type 1} → statement M
 covered-spec =
-    tie.close (tie.spec add-d sub-d add-g cast-g cover-word-requires marked-requires returns)
+    tie.close
+    (tie.spec
+    add-wrapping-sub-u64
+    wrapping-sub-u64-requires
+    cast-g
+    add-cover-word
+    cover-word-requires
+    marked-requires
+    returns)
