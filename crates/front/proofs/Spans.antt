@@ -1,14 +1,16 @@
 -- The machine's view of 64 ticks: the words of a span give at each tick the edge and the bracket of the rules.
 -- Values are read from the piece or from the 256 values before it; both are those of the joined trace.
-use Prim.Native.Nat.{ℕ, _+_, _-_, _≤_, _<_}
+use Prim.Native.Nat.{ℕ, _+_, _-_, _/_, _%_, _^_, _≤_, _<_}
+use native.Mathlib.Nat.{mod-lt}
 use native.Mathlib.Omega.{arith}
 use mathlib.Core.Path.{_≡_, refl, sym, ap, _∙_, subst}
 use mathlib.Core.Bool.{Bool, true, false, not, _&&_, _||_, cond}
 use mathlib.Core.List.{List, _++_, append-assoc}
-use lib.Dec.{leb}
+use lib.Bits.{bitAnd, bitOr, or-lt}
+use lib.Dec.{leb, eqb}
 use lib.ListN.{length, getD, drop, replicate, length-append, length-replicate, List·getD-append, List·getD-eq-default}
 use lib.Seq.{getD-drop, getD-append-add, drop-append-le, drop-drop}
-use borrow.Author.Tests.{leb-true, leb-false, le-leb, lt-leb}
+use borrow.Author.Tests.{leb-true, leb-false, eqb-true, eqb-false, le-leb, lt-leb}
 use Rattle.rules.specs.declared.Bracket.the-variants.{Without, With}
 use Rattle.rules.specs.Settings.{standard}
 use Rattle.rules.specs.Samples.{Trace, M}
@@ -17,6 +19,7 @@ use Rattle.rules.specs.Machine.{bracketOf, bracketAt}
 use Rattle.rules.proofs.Truth.{impossible, or-left, or-right}
 use Rattle.edges.specs.Words.{bit, Holds, Slid}
 use Rattle.edges.specs.Planes.{hasEdge}
+use Rattle.edges.proofs.BitLaws.{bit-and, bit-or, bit-not}
 use Rattle.edges.specs.Brackets.{Due, At168, At167}
 use Rattle.front.specs.declared.words.Front.{Front}
 use Rattle.front.specs.declared.span.Span.{Span}
@@ -143,38 +146,94 @@ keep-law recent values recent′ e =
 pub pulse-same : (x i t v : ℕ) (b : Bool) → b ≡ bit x i → record { tick = record { 0 = t }; main = b; value = v } ≡ pulseIn x i t v
 pulse-same x i t v b e = λ j. record { tick = record { 0 = t }; main = e j; value = v }
 
-pub choose-is : (c a b : Bool) → ((c && a) || (not c && b)) ≡ cond c a b
-choose-is true true b = refl
-choose-is true false b = refl
-choose-is false a b = refl
+-- ---- where an F2 stands, by bits of words
 
-pub chosen : (a b x y z x′ y′ z′ w : Bool) → x ≡ x′ → y ≡ y′ → z ≡ z′ → w ≡ cond b y z → cond a x w ≡ cond a x′ (cond b y′ z′)
-chosen a b x y z x′ y′ z′ w p q r e = λ i. cond a (p i) ((e ∙ (λ j. cond b (q j) (r j))) i)
+pub digit-is : (x i : ℕ) → x / 2 ^ i % 2 ≡ cond (bit x i) 1 0
+unfolding bit
+digit-is x i = go (eqb (x / 2 ^ i % 2) 1) refl
+  where
+    go : (c : Bool) → eqb (x / 2 ^ i % 2) 1 ≡ c → x / 2 ^ i % 2 ≡ cond c 1 0
+    go true e = eqb-true (x / 2 ^ i % 2) 1 e
+    go false e = let b : x / 2 ^ i % 2 < 2 = mod-lt (x / 2 ^ i) (omega arith) in omega (arith, eqb-false (x / 2 ^ i % 2) 1 e, b)
+
+or-three : (a b c i : ℕ) → bit (bitOr (bitOr a b) c) i ≡ (bit a i || (bit b i || bit c i))
+or-three a b c i = bit-or (bitOr a b) c i ∙ ap (λ (y : Bool). y || bit c i) (bit-or a b i) ∙ in-turn (bit a i) (bit b i) (bit c i)
+  where
+    in-turn : (x y z : Bool) → ((x || y) || z) ≡ (x || (y || z))
+    in-turn true y z = refl
+    in-turn false y z = refl
+
+pub framed-is : (r : Bool) (a b c i : ℕ) → r ≡ bit (bitOr (bitOr a b) c) i → r ≡ (bit a i || (bit b i || bit c i))
+framed-is r a b c i e = e ∙ or-three a b c i
+
+module _ (a b i : ℕ) (la : a < 2 ^ 64) (lb : b < 2 ^ 64) (li : i < 64) where
+  sooner-bit : bit (bitAnd b (2 ^ 64 - 1 - a)) i ≡ (bit b i && not (bit a i))
+  sooner-bit = bit-and b (2 ^ 64 - 1 - a) i ∙ ap (λ (y : Bool). bit b i && y) (bit-not a 64 i la li)
+
+  later-bit : bit (2 ^ 64 - 1 - bitOr a b) i ≡ not (bit a i || bit b i)
+  later-bit = bit-not (bitOr a b) 64 i (or-lt 64 a b la lb) li ∙ ap not (bit-or a b i)
+
+  pub apart-is : (x y d e : ℕ) → x ≡ 2 ^ 64 - 1 - bitOr a b → y ≡ bitAnd b (2 ^ 64 - 1 - a) → d ≡ cond (bit x i) 1 0 → e ≡ cond (bit y i) 1 0
+      → 168 + d - e ≡ cond (bit a i) 168 (cond (bit b i) 167 169)
+  apart-is x y d e ex ey ed ee =
+      go (bit a i) (bit b i) (ed ∙ ap (λ (z : Bool). cond z 1 0) (ap (λ (z : ℕ). bit z i) ex ∙ later-bit)) (ee ∙ ap (λ (z : Bool). cond z 1 0) (ap (λ (z : ℕ). bit z i) ey ∙ sooner-bit))
+    where
+      go : (p q : Bool) → d ≡ cond (not (p || q)) 1 0 → e ≡ cond (q && not p) 1 0 → 168 + d - e ≡ cond p 168 (cond q 167 169)
+      go true true h k = omega arith
+      go true false h k = omega arith
+      go false true h k = omega arith
+      go false false h k = omega arith
+
+  pub second-is : (r : Bool) (m n o x y : ℕ) → x ≡ bitAnd b (2 ^ 64 - 1 - a) → y ≡ 2 ^ 64 - 1 - bitOr a b → r ≡ bit (bitOr (bitAnd a m) (bitOr (bitAnd x n) (bitAnd y o))) i
+      → r ≡ cond (bit a i) (bit m i) (cond (bit b i) (bit n i) (bit o i))
+  second-is r m n o x y ex ey er =
+      let p = bit-or (bitAnd a m) (bitOr (bitAnd x n) (bitAnd y o)) i in
+      let q = bit-or (bitAnd x n) (bitAnd y o) i in
+      let u = bit-and a m i in
+      let v = bit-and x n i ∙ ap (λ (z : Bool). z && bit n i) (ap (λ (z : ℕ). bit z i) ex ∙ sooner-bit) in
+      let w = bit-and y o i ∙ ap (λ (z : Bool). z && bit o i) (ap (λ (z : ℕ). bit z i) ey ∙ later-bit) in
+      er ∙ p ∙ ap (λ (z : Bool). bit (bitAnd a m) i || z) q ∙ (λ k. u k || (v k || w k)) ∙ go (bit a i) (bit b i) (bit m i) (bit n i) (bit o i)
+    where
+      go : (p q f g h : Bool) → ((p && f) || (((q && not p) && g) || (not (p || q) && h))) ≡ cond p f (cond q g h)
+      go true true true g h = refl
+      go true true false g h = refl
+      go true false true g h = refl
+      go true false false g h = refl
+      go false true f true h = refl
+      go false true f false h = refl
+      go false false f g h = refl
 
 module _ (s : Span) (i u : ℕ) (recent : List ℕ) (base : ℕ) (values : List ℕ) where
-  pub bracket-none : (a b c : Bool) → a ≡ bit (s .at168) i → b ≡ bit (s .at167) i → c ≡ bit (s .at169) i → (a || (b || c)) ≡ false → Without ≡ bracketIn s i u recent base values
+  pub bracket-none : (r : Bool) → r ≡ (bit (s .at168) i || (bit (s .at167) i || bit (s .at169) i)) → r ≡ false → Without ≡ bracketIn s i u recent base values
   unfolding bracketIn
-  bracket-none a b c ea eb ec off =
-      let bc = or-right a (b || c) off in
-      rw (sym ea ∙ or-left a (b || c) off, sym eb ∙ or-left b c bc, sym ec ∙ or-right b c bc)
+  bracket-none r e off =
+      let h = sym e ∙ off in
+      let bc = or-right (bit (s .at168) i) (bit (s .at167) i || bit (s .at169) i) h in
+      rw (or-left (bit (s .at168) i) (bit (s .at167) i || bit (s .at169) i) h, or-left (bit (s .at167) i) (bit (s .at169) i) bc, or-right (bit (s .at167) i) (bit (s .at169) i) bc)
 
-  pub bracket-there : (a b c main : Bool) (d v : ℕ) → a ≡ bit (s .at168) i → b ≡ bit (s .at167) i → c ≡ bit (s .at169) i → (a || (b || c)) ≡ true
+  bracket-by : (a b c main : Bool) (d v : ℕ) → a ≡ bit (s .at168) i → b ≡ bit (s .at167) i → c ≡ bit (s .at169) i → (a || (b || c)) ≡ true
       → main ≡ cond a (bit (s .main168) i) (cond b (bit (s .main167) i) (bit (s .main169) i)) → d ≡ cond a 168 (cond b 167 169) → v ≡ valueOf recent base values (u + d + 1)
       → With (record { tick = record { 0 = u + d }; main = main; value = v }) ≡ bracketIn s i u recent base values
   unfolding bracketIn
-  bracket-there true b c main d v ea eb ec there em ed ev =
+  bracket-by true b c main d v ea eb ec there em ed ev =
       let z : u + d + 1 ≡ u + 169 = omega arith in
       let q = ev ∙ ap (valueOf recent base values) z in
       rw (sym ea) (λ j. With (record { tick = record { 0 = u + ed j }; main = em j; value = q j }))
-  bracket-there false true c main d v ea eb ec there em ed ev =
+  bracket-by false true c main d v ea eb ec there em ed ev =
       let z : u + d + 1 ≡ u + 168 = omega arith in
       let q = ev ∙ ap (valueOf recent base values) z in
       rw (sym ea, sym eb) (λ j. With (record { tick = record { 0 = u + ed j }; main = em j; value = q j }))
-  bracket-there false false true main d v ea eb ec there em ed ev =
+  bracket-by false false true main d v ea eb ec there em ed ev =
       let z : u + d + 1 ≡ u + 170 = omega arith in
       let q = ev ∙ ap (valueOf recent base values) z in
       rw (sym ea, sym eb, sym ec) (λ j. With (record { tick = record { 0 = u + ed j }; main = em j; value = q j }))
-  bracket-there false false false main d v ea eb ec there em ed ev = absurd (impossible (sym there))
+  bracket-by false false false main d v ea eb ec there em ed ev = absurd (impossible (sym there))
+
+  pub bracket-there : (r main : Bool) (d v : ℕ) → r ≡ (bit (s .at168) i || (bit (s .at167) i || bit (s .at169) i)) → r ≡ true
+      → main ≡ cond (bit (s .at168) i) (bit (s .main168) i) (cond (bit (s .at167) i) (bit (s .main167) i) (bit (s .main169) i)) → d ≡ cond (bit (s .at168) i) 168 (cond (bit (s .at167) i) 167 169)
+      → v ≡ valueOf recent base values (u + d + 1) → With (record { tick = record { 0 = u + d }; main = main; value = v }) ≡ bracketIn s i u recent base values
+  bracket-there r main d v e on em ed ev =
+      bracket-by (bit (s .at168) i) (bit (s .at167) i) (bit (s .at169) i) main d v refl refl refl (sym e ∙ on) em ed ev
 
 -- ---- the edge and the bracket at a tick of a span
 

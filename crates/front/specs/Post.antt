@@ -3,6 +3,7 @@ use Prim.Native.Nat.{ℕ, _+_, _-_, _^_, _≤_, _<_}
 use mathlib.Core.Bool.{Bool, false, cond, _&&_}
 use mathlib.Core.List.{List, _++_}
 use mathlib.Core.Path.{_≡_}
+use lib.Bits.{bitAnd, bitOr}
 use lib.Dec.{leb, eqb}
 use lib.ListN.{length, getD}
 use Rattle.rules.specs.Samples.{Trace, A, P, N, M}
@@ -71,6 +72,13 @@ pub record SpanPost (f : Front) (s : Span) : Type 0 where
 -- the pulse at tick t, whose M is bit i of x
 abbrev pub pulseIn : ℕ → ℕ → ℕ → ℕ → Pulse
 pulseIn x i t v = record { tick = record { 0 = t }; main = bit x i; value = v }
+
+-- the ticks with an edge 167 ticks behind and none 168 behind, and those with neither
+abbrev pub soonerIn : Span → ℕ
+soonerIn s = bitAnd (s .at167) (2 ^ 64 - 1 - s .at168)
+
+abbrev pub laterIn : Span → ℕ
+laterIn s = 2 ^ 64 - 1 - bitOr (s .at168) (s .at167)
 
 -- the bracket at tick u, which is tick i of the span: its F2, if it has one
 unfoldable pub bracketIn : Span → ℕ → ℕ → List ℕ → ℕ → List ℕ → Bracket

@@ -3,7 +3,7 @@ ghost use Prim.Native.Nat.{ℕ, _+_, _<_, _≤_};
 ghost use mathlib.Core.Path.{_≡_};
 ghost use mathlib.Core.Bool.{_||_, cond};
 ghost use Rattle.edges.specs.Words.{bit};
-ghost use Rattle.front.specs.Post.{SpanPost, TopPost, pulseIn, bracketIn};
+ghost use Rattle.front.specs.Post.{SpanPost, TopPost, pulseIn, soonerIn, laterIn, bracketIn};
 use super::values::value_at;
 use super::words::Front;
 use edges::brackets::at167;
@@ -75,31 +75,48 @@ pub fn framed(s: Span, i: u32) -> bool
     requires { ⌜ i < 64 ⌝ }
     ensures { λ r. ⌜ r ≡ (bit (s .at168) i || (bit (s .at167) i || bit (s .at169) i)) ⌝ }
 {
-    let a = marked(s.at168, i);
-    let b = marked(s.at167, i);
-    let c = marked(s.at169, i);
-    a | (b | c)
+    marked(s.at168 | s.at167 | s.at169, i)
 }
 
-// One of two truth values.
-fn choose(c: bool, a: bool, b: bool) -> bool
-    ensures { λ r. ⌜ r ≡ cond c a b ⌝ }
+// The ticks whose F2 stands 167 ticks behind, for want of an edge at 168.
+fn sooner(s: Span) -> u64
+    ensures { λ x. ⌜ x ≡ soonerIn s ⌝ }
 {
-    (c & a) | (!c & b)
+    s.at167 & !s.at168
+}
+
+// Those whose F2 can only stand 169 ticks behind.
+fn later(s: Span) -> u64
+    ensures { λ x. ⌜ x ≡ laterIn s ⌝ }
+{
+    !(s.at168 | s.at167)
+}
+
+fn digit(x: u64, i: u32) -> u32
+    requires { ⌜ i < 64 ⌝ }
+    ensures { λ r. ⌜ r ≡ cond (bit x i) 1 0 ⌝ }
+{
+    ((x >> i) % 2) as u32
 }
 
 // How far behind an edge its F2 stands: 168 ticks, else 167, else 169.
-fn apart(at168: bool, at167: bool) -> u32
-    ensures is { λ d. ⌜ d ≡ cond at168 168 (cond at167 167 169) ⌝ }
+fn apart(s: Span, i: u32) -> u32
+    requires { ⌜ i < 64 ⌝ }
+    ensures is { λ d. ⌜ d ≡ cond (bit (s .at168) i) 168 (cond (bit (s .at167) i) 167 169) ⌝ }
     ensures most { λ d. ⌜ d ≤ 169 ⌝ }
 {
-    if at168 {
-        return 168;
-    }
-    if at167 {
-        return 167;
-    }
-    169
+    168 + digit(later(s), i) - digit(sooner(s), i)
+}
+
+// M of the F2 there.
+fn second_main(s: Span, i: u32) -> bool
+    requires { ⌜ i < 64 ⌝ }
+    ensures { λ r. ⌜ r ≡ cond (bit (s .at168) i) (bit (s .main168) i) (cond (bit (s .at167) i) (bit (s .main167) i) (bit (s .main169) i)) ⌝ }
+{
+    let x = s.at168 & s.main168;
+    let y = sooner(s) & s.main167;
+    let z = later(s) & s.main169;
+    marked(x | (y | z), i)
 }
 
 // The bracket at tick u, the i-th of the span.
@@ -107,17 +124,11 @@ pub fn bracket_at(s: Span, i: u32, u: u32, recent: &[u8; 256], base: u32, values
     requires { ⌜ (i < 64) × (u < 65536) ⌝ }
     ensures { λ r. ⌜ r ≡ bracketIn s i u (now (recent .entry)) base (now (values .entry)) ⌝ }
 {
-    let a = marked(s.at168, i);
-    let b = marked(s.at167, i);
-    let c = marked(s.at169, i);
-    if !(a | (b | c)) {
+    if !framed(s, i) {
         return Bracket::Without;
     }
-    let x = marked(s.main168, i);
-    let y = marked(s.main167, i);
-    let z = marked(s.main169, i);
-    let main = choose(a, x, choose(b, y, z));
-    let d = apart(a, b);
+    let main = second_main(s, i);
+    let d = apart(s, i);
     let value = value_at(recent, base, values, u + d + 1);
     let f = Pulse {
         tick: Tick(u + d),

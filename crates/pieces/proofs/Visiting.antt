@@ -182,7 +182,7 @@ visit-skip x c s i t recent base values at b x₁ r b′ u li lu lt tick h f o e
       retires = h;
       brackets =
           no-bracket x₁ c P (bracketIn s i u recent base values) i t
-          (sym (bracket-none s i u recent base values (bit (s .at168) i) (bit (s .at167) i) (bit (s .at169) i) refl refl refl (sym ef ∙ or-left f o off)));
+          (sym (bracket-none s i u recent base values f ef (or-left f o off)));
       deals =
           deal-none (x₁ .f1) (x₁ .row) (x₁ .level) (x₁ .on) P i li (bit (getD (x₁ .on) 0 0) i) (bit (getD (x₁ .on) 1 0) i) (bit (getD (x₁ .on) 2 0) i) (bit (getD (x₁ .on) 3 0) i) o refl refl
           refl refl eo (or-right f o off);
