@@ -24,7 +24,7 @@ use Rattle.rules.specs.Machine.{openedBy, fateBy, tally}
 use Rattle.replies.specs.Sums.{capped}
 use Rattle.machine.specs.Places.{test, always, any3, anyIn, countIn, pushed, withoutIn, openedIn, fateIn, placesAfter, bracketOn, bracketIf, placed}
 use Rattle.machine.proofs.Placed.{without-placed, count-placed}
-use Rattle.edges.specs.Words.{bit}
+use Rattle.plane.specs.Words.{bit}
 use Rattle.columns.specs.Columns.{Rows, Sized, none, placeIn, placesIn, placesOf, machineAt, columnAt}
 use Rattle.columns.specs.Masks.{coversFrom, Masked, AllMasked, PutMasks, MaskPost}
 use Rattle.columns.specs.Post.{Put, PutPost, anyOf, insideFrom, militaryFrom}

@@ -6,7 +6,7 @@ use Rattle.front.proofs.span.bracket_at.Statement.{statement}
 use Rattle.front.proofs.span.bracket_at.Tie as tie
 use Rattle.front.proofs.span.bracket_at.Reads as reads
 use Rattle.front.proofs.span.bracket_at.Lts as lts
-use Rattle.edges.proofs.words.marked.Reads as marked-reads
+use Rattle.plane.proofs.marked.Reads as marked-reads
 use Rattle.front.proofs.span.apart.Reads as apart-reads
 use Rattle.front.proofs.span.choose.Reads as choose-reads
 use Rattle.front.proofs.values.value_at.Reads as value-at-reads

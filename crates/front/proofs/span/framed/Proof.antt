@@ -4,7 +4,7 @@ use Rattle.front.proofs.span.framed.Statement.{statement}
 use Rattle.front.proofs.span.framed.Tie as tie
 use Rattle.front.proofs.span.framed.Reads as reads
 use Rattle.front.proofs.span.framed.Lts as lts
-use Rattle.edges.proofs.words.marked.Reads as marked-reads
+use Rattle.plane.proofs.marked.Reads as marked-reads
 
 -- src/span.rt:78:9
 marked-requires : tie.Need-marked-requires

@@ -1,0 +1,26 @@
+-- Tests of many flag bytes.
+use Prim.Native.Nat.{ℕ, _+_, _<_}
+use mathlib.Core.Path.{_≡_}
+use mathlib.Core.Bool.{Bool, true, false, _||_}
+use mathlib.Core.List.{List}
+use lib.ListN.{length, getD, drop}
+use Rattle.rules.specs.Lists.{any}
+use Rattle.rules.specs.Samples.{bad}
+use Rattle.plane.specs.Words.{bit}
+
+-- r is true exactly if a flag byte from o on is bad
+pub record BadFrom (f : List ℕ) (o : ℕ) (r : Bool) : Type 0 where
+  pub is : r ≡ any bad (drop o f)
+
+-- a flag byte from o on is bad if r is true, or if one behind the 64 from o on is
+pub record BadBlock (f : List ℕ) (o : ℕ) (r : Bool) : Type 0 where
+  pub is : any bad (drop o f) ≡ r || any bad (drop (o + 64) f)
+
+-- r is true exactly if none of the 64 flag bytes from o on has a bit
+pub record BareBlock (f : List ℕ) (o : ℕ) (r : Bool) : Type 0 where
+  pub yes : r ≡ true → (m k : ℕ) → m < 64 → k < 8 → bit (getD f (o + m) 0) k ≡ false
+  pub no : ((m k : ℕ) → m < 64 → k < 8 → bit (getD f (o + m) 0) k ≡ false) → r ≡ true
+
+-- if r is true, all flag bytes are 0
+pub record Bare (f : List ℕ) (r : Bool) : Type 0 where
+  pub yes : r ≡ true → (m : ℕ) → m < length f → getD f m 0 ≡ 0
