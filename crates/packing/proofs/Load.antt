@@ -1,4 +1,4 @@
--- Eight bytes as a word: the bytes are joined one by one, each eight bits above the last.
+-- Four bytes as a word, joined one by one, each eight bits above the last; and eight bytes, of two such words.
 use Prim.Native.Nat.{ℕ, _+_, _-_, _*_, _/_, _%_, _^_, _≤_, _<_}
 use native.Mathlib.Omega.{arith}
 use native.Mathlib.Nat.{add-zero, lt-of-lt-of-le}
@@ -10,34 +10,30 @@ use lib.ListN.{getD}
 use lib.Pow.{pow-mono, shl-lt, shl-exact}
 use lib.Bits.{bitOr, or-lt}
 use Rattle.plane.specs.Words.{bit}
-use Rattle.packing.specs.Packing.{Reads, bytes}
+use Rattle.packing.specs.Packing.{bytes, Starts, Four, Eight}
 use Rattle.plane.proofs.Cases.{le-or-lt, or-false}
 use Rattle.plane.proofs.BitLaws.{bit-or, bit-above, left, left-high, left-low}
 
--- the n low bits of the source
-record Pre (X : ℕ → Bool) (n y : ℕ) : Type 0 where
-  below : y < 2 ^ n
-  at : (i : ℕ) → i < n → bit y i ≡ X i
+-- k bits more, above the n that are there
+module _ {X : ℕ → Bool} {n y b : ℕ} (k : ℕ) (p : Starts X n y) (l : n + k ≤ 64) (hb : b < 2 ^ k) (e : (r : ℕ) → r < k → bit b r ≡ X (n + r)) where
+  old : (i : ℕ) → i < n → i < 64 → bit y i || bit (left n b) i ≡ X i
+  old i h g = ap (λ (x : Bool). bit y i || x) (left-low n b i g h) ∙ or-false (bit y i) ∙ p .at i h
 
-module _ {X : ℕ → Bool} {n y b : ℕ} (p : Pre X n y) (l : n + 8 ≤ 64) (hb : b < 2 ^ 8) (e : (r : ℕ) → r < 8 → bit b r ≡ X (n + r)) where
-  old : (i : ℕ) → i < n → bit y i || bit (left n b) i ≡ X i
-  old i h = ap (λ (x : Bool). bit y i || x) (left-low n b i (omega arith) h) ∙ or-false (bit y i) ∙ p .at i h
-
-  new : (r : ℕ) → r < 8 → bit y (n + r) || bit (left n b) (n + r) ≡ X (n + r)
+  new : (r : ℕ) → r < k → bit y (n + r) || bit (left n b) (n + r) ≡ X (n + r)
   new r h = ap₂ _||_ (bit-above y n (n + r) (p .below) (omega arith)) (left-high n b r (omega arith)) ∙ e r h
 
-  small : left n b < 2 ^ (n + 8)
+  small : left n b < 2 ^ (n + k)
   small =
-      let q : 8 + n ≡ n + 8 = omega arith in
-      subst (λ (k : ℕ). left n b < 2 ^ k) q (subst (λ (x : ℕ). x < 2 ^ (8 + n)) (sym (shl-exact 8 n 64 hb (omega arith))) (shl-lt 8 n hb))
+      let q : k + n ≡ n + k = omega arith in
+      subst (λ (j : ℕ). left n b < 2 ^ j) q (subst (λ (x : ℕ). x < 2 ^ (k + n)) (sym (shl-exact k n 64 hb (omega arith))) (shl-lt k n hb))
 
-  one-more : Pre X (n + 8) (bitOr y (left n b))
-  one-more = record {
-    below = or-lt (n + 8) y (left n b) (lt-of-lt-of-le (p .below) (pow-mono (omega arith))) small;
+  joined : Starts X (n + k) (bitOr y (left n b))
+  joined = record {
+    below = or-lt (n + k) y (left n b) (lt-of-lt-of-le (p .below) (pow-mono (omega arith))) small;
     at = λ i h. bit-or y (left n b) i ∙ ⊎-elim
         (λ (g : n ≤ i). let q : n + (i - n) ≡ i = omega arith in
-        subst (λ (k : ℕ). bit y k || bit (left n b) k ≡ X k) q (new (i - n) (omega arith)))
-        (λ (g : i < n). old i g)
+        subst (λ (j : ℕ). bit y j || bit (left n b) j ≡ X j) q (new (i - n) (omega arith)))
+        (λ (g : i < n). old i g (omega arith))
         (le-or-lt n i);
   }
 
@@ -52,25 +48,32 @@ module _ (f : List ℕ) (o : ℕ) (bound : (i : ℕ) → getD f i 0 < 256) where
   fits : (k b : ℕ) → b ≡ getD f k 0 → b < 2 ^ 8
   fits k b e = omega (arith, bound k)
 
-  pub eight-reads : {b₀ b₁ b₂ b₃ b₄ b₅ b₆ b₇ : ℕ} → b₀ ≡ getD f o 0 → b₁ ≡ getD f (o + 1) 0 → b₂ ≡ getD f (o + 2) 0 → b₃ ≡ getD f (o + 3) 0
-      → b₄ ≡ getD f (o + 4) 0 → b₅ ≡ getD f (o + 5) 0 → b₆ ≡ getD f (o + 6) 0 → b₇ ≡ getD f (o + 7) 0
-      → Reads (bytes f o) (λ i. i) (bitOr (bitOr (bitOr (bitOr (bitOr (bitOr (bitOr b₀ (left 8 b₁)) (left 16 b₂)) (left 24 b₃)) (left 32 b₄)) (left 40 b₅)) (left 48 b₆)) (left 56 b₇))
-  eight-reads {b₀} {b₁} {b₂} {b₃} {b₄} {b₅} {b₆} {b₇} e₀ e₁ e₂ e₃ e₄ e₅ e₆ e₇ = record { below = all .below; at = all .at }
+  pub four-is : {b₀ b₁ b₂ b₃ : ℕ} → b₀ ≡ getD f o 0 → b₁ ≡ getD f (o + 1) 0 → b₂ ≡ getD f (o + 2) 0 → b₃ ≡ getD f (o + 3) 0
+      → Four f o (bitOr (bitOr (bitOr b₀ (left 8 b₁)) (left 16 b₂)) (left 24 b₃))
+  four-is {b₀} {b₁} {b₂} {b₃} e₀ e₁ e₂ e₃ = record {
+    starts = joined 8 (joined 8 (joined 8 first
+        (omega arith) (fits (o + 1) b₁ e₁) (byte-at 1 b₁ e₁))
+        (omega arith) (fits (o + 2) b₂ e₂) (byte-at 2 b₂ e₂))
+        (omega arith) (fits (o + 3) b₃ e₃) (byte-at 3 b₃ e₃);
+  }
     where
-      first : Pre (bytes f o) 8 b₀
+      first : Starts (bytes f o) 8 b₀
       first = record {
         below = fits o b₀ e₀;
         at = λ i h. byte-at 0 b₀ (e₀ ∙ ap (λ (k : ℕ). getD f k 0) (sym (add-zero o))) i h
             ∙ (let q : 8 * 0 + i ≡ i = omega arith in ap (bytes f o) q);
       }
 
-      all : Pre (bytes f o) 64 (bitOr (bitOr (bitOr (bitOr (bitOr (bitOr (bitOr b₀ (left 8 b₁)) (left 16 b₂)) (left 24 b₃)) (left 32 b₄)) (left 40 b₅)) (left 48 b₆)) (left 56 b₇))
-      all =
-          one-more (one-more (one-more (one-more (one-more (one-more (one-more first
-          (omega arith) (fits (o + 1) b₁ e₁) (byte-at 1 b₁ e₁))
-          (omega arith) (fits (o + 2) b₂ e₂) (byte-at 2 b₂ e₂))
-          (omega arith) (fits (o + 3) b₃ e₃) (byte-at 3 b₃ e₃))
-          (omega arith) (fits (o + 4) b₄ e₄) (byte-at 4 b₄ e₄))
-          (omega arith) (fits (o + 5) b₅ e₅) (byte-at 5 b₅ e₅))
-          (omega arith) (fits (o + 6) b₆ e₆) (byte-at 6 b₆ e₆))
-          (omega arith) (fits (o + 7) b₇ e₇) (byte-at 7 b₇ e₇)
+-- the bytes from four further on
+four-on : (f : List ℕ) (o r : ℕ) → bytes f (o + 4) r ≡ bytes f o (32 + r)
+unfolding bytes
+four-on f o r =
+    let d : o + 4 + r / 8 ≡ o + (32 + r) / 8 = omega arith in
+    let m : r % 8 ≡ (32 + r) % 8 = omega arith in
+    ap₂ (λ (k n : ℕ). bit (getD f k 0) n) d m
+
+pub eight-is : (f : List ℕ) (o : ℕ) {x y : ℕ} → Four f o x → Four f (o + 4) y → Eight f o (bitOr x (left 32 y))
+eight-is f o {x} {y} p q = record { reads = record { below = both .below; at = both .at } }
+  where
+    both : Starts (bytes f o) 64 (bitOr x (left 32 y))
+    both = joined 32 (p .starts) (omega arith) (q .starts .below) (λ r h. q .starts .at r h ∙ four-on f o r)

@@ -20,6 +20,15 @@ unfoldable pub bytes : List ℕ → ℕ → ℕ → Bool
 unfolding bit
 bytes f o s = bit (getD f (o + s / 8) 0) (s % 8)
 
+-- y has the n low bits of the source X, and no other
+pub record Starts (X : ℕ → Bool) (n y : ℕ) : Type 0 where
+  pub below : y < 2 ^ n
+  pub at : (i : ℕ) → i < n → bit y i ≡ X i
+
+-- a word of four bytes
+pub record Four (f : List ℕ) (o x : ℕ) : Type 0 where
+  pub starts : Starts (bytes f o) 32 x
+
 -- a word of eight bytes
 pub record Eight (f : List ℕ) (o x : ℕ) : Type 0 where
   pub reads : Reads (bytes f o) (λ i. i) x

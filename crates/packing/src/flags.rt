@@ -5,7 +5,7 @@ ghost use lib.ListN.{length};
 ghost use lib.Bits.{bitAnd};
 ghost use Rattle.rules.specs.Lists.{any};
 ghost use Rattle.rules.specs.Samples.{bad};
-ghost use Rattle.packing.specs.Flags.{BadFrom, BadBlock, BareBlock, Bare};
+ghost use Rattle.packing.specs.Flags.{BadFrom, Gathered, Paired, BadBlock, BareBlock, Bare};
 use super::eight;
 
 // Whether a flag byte is bad.
@@ -28,30 +28,34 @@ fn bad_block(flags: &[u8], o: usize) -> bool
     requires { ⌜ o + 64 ≤ length (now flags) ⌝ }
     ensures { λ r. ⌜ BadBlock (now (flags .entry)) o r ⌝ }
 {
-    let x0 = eight(flags, o);
-    let x1 = eight(flags, o + 8);
-    let x2 = eight(flags, o + 16);
-    let x3 = eight(flags, o + 24);
-    let x4 = eight(flags, o + 32);
-    let x5 = eight(flags, o + 40);
-    let x6 = eight(flags, o + 48);
-    let x7 = eight(flags, o + 56);
-    let bits = x0 | x1 | x2 | x3 | x4 | x5 | x6 | x7;
+    let bits = or_bits(flags, o) | or_bits(flags, o + 32);
     if bits == 0 {
         return false;
     }
-    let pairs = pair(x0)
-        | pair(x1)
-        | pair(x2)
-        | pair(x3)
-        | pair(x4)
-        | pair(x5)
-        | pair(x6)
-        | pair(x7);
+    let pairs = or_pairs(flags, o) | or_pairs(flags, o + 32);
     ((bits & 0xf0f0_f0f0_f0f0_f0f0) | (pairs & 0x0202_0202_0202_0202)) != 0
 }
 
-// Each bit with the one above it: the P of a byte with its N.
+// The bits of the 32 flag bytes from o on, eight bytes or-ed with eight.
+fn or_bits(flags: &[u8], o: usize) -> u64
+    requires { ⌜ o + 32 ≤ length (now flags) ⌝ }
+    ensures { λ r. ⌜ Gathered (now (flags .entry)) o 4 r ⌝ }
+{
+    eight(flags, o) | eight(flags, o + 8) | eight(flags, o + 16) | eight(flags, o + 24)
+}
+
+// The same of each bit with the one above it: the P of a byte with its N.
+fn or_pairs(flags: &[u8], o: usize) -> u64
+    requires { ⌜ o + 32 ≤ length (now flags) ⌝ }
+    ensures { λ r. ⌜ Paired (now (flags .entry)) o 4 r ⌝ }
+{
+    pair(eight(flags, o))
+        | pair(eight(flags, o + 8))
+        | pair(eight(flags, o + 16))
+        | pair(eight(flags, o + 24))
+}
+
+// Each bit with the one above it.
 fn pair(x: u64) -> u64
     ensures { λ r. ⌜ r ≡ bitAnd x (x / 2) ⌝ }
 {
@@ -102,13 +106,5 @@ pub fn bare_block(flags: &[u8], o: usize) -> bool
     requires { ⌜ o + 64 ≤ length (now flags) ⌝ }
     ensures { λ r. ⌜ BareBlock (now (flags .entry)) o r ⌝ }
 {
-    let x = eight(flags, o)
-        | eight(flags, o + 8)
-        | eight(flags, o + 16)
-        | eight(flags, o + 24)
-        | eight(flags, o + 32)
-        | eight(flags, o + 40)
-        | eight(flags, o + 48)
-        | eight(flags, o + 56);
-    x == 0
+    (or_bits(flags, o) | or_bits(flags, o + 32)) == 0
 }

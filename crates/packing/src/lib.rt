@@ -2,7 +2,7 @@
 ghost use Prim.Native.Nat.{_+_, _≤_};
 ghost use mathlib.Core.Path.{_≡_};
 ghost use lib.ListN.{length};
-ghost use Rattle.packing.specs.Packing.{Eight, Nibbles, Turn, Low, High, Packed, PackedPart};
+ghost use Rattle.packing.specs.Packing.{Four, Eight, Nibbles, Turn, Low, High, Packed, PackedPart};
 
 pub mod flags;
 
@@ -19,19 +19,23 @@ fn wide(x: u8) -> u64
     x as u64
 }
 
-// The bits of the eight bytes from o on, lowest first.
-pub fn eight(flags: &[u8], o: usize) -> u64
-    requires { ⌜ o + 8 ≤ length (now flags) ⌝ }
-    ensures { λ r. ⌜ Eight (now (flags .entry)) o r ⌝ }
+// The bits of the four bytes from o on, lowest first.
+fn four(flags: &[u8], o: usize) -> u64
+    requires { ⌜ o + 4 ≤ length (now flags) ⌝ }
+    ensures { λ r. ⌜ Four (now (flags .entry)) o r ⌝ }
 {
     wide(flags[o])
         | (wide(flags[o + 1]) << 8)
         | (wide(flags[o + 2]) << 16)
         | (wide(flags[o + 3]) << 24)
-        | (wide(flags[o + 4]) << 32)
-        | (wide(flags[o + 5]) << 40)
-        | (wide(flags[o + 6]) << 48)
-        | (wide(flags[o + 7]) << 56)
+}
+
+// The bits of the eight bytes from o on, lowest first.
+pub fn eight(flags: &[u8], o: usize) -> u64
+    requires { ⌜ o + 8 ≤ length (now flags) ⌝ }
+    ensures { λ r. ⌜ Eight (now (flags .entry)) o r ⌝ }
+{
+    four(flags, o) | (four(flags, o + 4) << 32)
 }
 
 // x with its high nibbles replaced by the low ones of y.

@@ -15,12 +15,12 @@ use Rattle.rules.specs.Samples.{bad, odd}
 use Rattle.rules.proofs.Truth.{or-left, or-right, impossible}
 use Rattle.plane.specs.Words.{bit}
 use Rattle.packing.specs.Packing.{bytes, Eight}
-use Rattle.packing.specs.Flags.{BadFrom, BadBlock}
+use Rattle.packing.specs.Flags.{some, Gathered, Paired, BadFrom, BadBlock}
 use Rattle.plane.proofs.Cases.{and-false, upTo, below, is-true, never}
 use Rattle.plane.proofs.BitLaws.{bit-and, bit-or, bit-shr, bit-above, zero-bit}
 use Rattle.plane.proofs.LowestBit.{no-bits}
 use Rattle.packing.proofs.flags.BadBytes.{rest}
-use Rattle.packing.proofs.flags.Bareness.{some, some-none, none-some, Gathered, byte-bit, all-bits}
+use Rattle.packing.proofs.flags.Bareness.{some-none, none-some, or-assoc, some-more, byte-bit, all-bits}
 
 -- ---- one byte
 
@@ -41,10 +41,6 @@ good-both b e = or-left (odd (b / 2) && odd (b / 4)) (ltb 15 b) e
 
 -- ---- each bit of the bytes with the one above it
 
--- y is the or of the first n words, each with itself shifted right by one
-pub record Paired (f : List ℕ) (o n y : ℕ) : Type 0 where
-  pub at : (i : ℕ) → i < 63 → bit y i ≡ some (λ j. bytes f (o + 8 * j) i && bytes f (o + 8 * j) (1 + i)) n
-
 pair-bit : (f : List ℕ) (o x i : ℕ) → Eight f o x → i < 63 → bit (bitAnd x (x / 2)) i ≡ bytes f o i && bytes f o (1 + i)
 pair-bit f o x i e h = bit-and x (x / 2) i ∙ ap₂ _&&_ (e .reads .at i (omega arith)) (bit-shr x 1 i ∙ e .reads .at (1 + i) (omega arith))
 
@@ -61,15 +57,19 @@ one-more-pair f o n {x} {y} {z} g e q = record {
   at = λ i h. bit-or y z i ∙ ap₂ _||_ (g .at i h) (ap (λ (z : ℕ). bit z i) q ∙ pair-bit f (o + 8 * n) x i e h);
 }
 
--- eight words in a row
-pub eight-pairs : (f : List ℕ) (o : ℕ) {x₀ x₁ x₂ x₃ x₄ x₅ x₆ x₇ y₀ y₁ y₂ y₃ y₄ y₅ y₆ y₇ : ℕ} → Eight f o x₀ → Eight f (o + 8) x₁ → Eight f (o + 16) x₂
-    → Eight f (o + 24) x₃ → Eight f (o + 32) x₄ → Eight f (o + 40) x₅ → Eight f (o + 48) x₆ → Eight f (o + 56) x₇
+-- four words in a row, and eight
+pub four-pairs : (f : List ℕ) (o : ℕ) {x₀ x₁ x₂ x₃ y₀ y₁ y₂ y₃ : ℕ} → Eight f o x₀ → Eight f (o + 8) x₁ → Eight f (o + 16) x₂ → Eight f (o + 24) x₃
     → y₀ ≡ bitAnd x₀ (x₀ / 2) → y₁ ≡ bitAnd x₁ (x₁ / 2) → y₂ ≡ bitAnd x₂ (x₂ / 2) → y₃ ≡ bitAnd x₃ (x₃ / 2)
-    → y₄ ≡ bitAnd x₄ (x₄ / 2) → y₅ ≡ bitAnd x₅ (x₅ / 2) → y₆ ≡ bitAnd x₆ (x₆ / 2) → y₇ ≡ bitAnd x₇ (x₇ / 2)
-    → Paired f o 8 (bitOr (bitOr (bitOr (bitOr (bitOr (bitOr (bitOr y₀ y₁) y₂) y₃) y₄) y₅) y₆) y₇)
-eight-pairs f o e₀ e₁ e₂ e₃ e₄ e₅ e₆ e₇ q₀ q₁ q₂ q₃ q₄ q₅ q₆ q₇ =
-    one-more-pair f o 7 (one-more-pair f o 6 (one-more-pair f o 5 (one-more-pair f o 4 (one-more-pair f o 3 (one-more-pair f o 2 (one-more-pair f o 1
-    (first-pair f o e₀ q₀) e₁ q₁) e₂ q₂) e₃ q₃) e₄ q₄) e₅ q₅) e₆ q₆) e₇ q₇
+    → Paired f o 4 (bitOr (bitOr (bitOr y₀ y₁) y₂) y₃)
+four-pairs f o e₀ e₁ e₂ e₃ q₀ q₁ q₂ q₃ =
+    one-more-pair f o 3 (one-more-pair f o 2 (one-more-pair f o 1 (first-pair f o e₀ q₀) e₁ q₁) e₂ q₂) e₃ q₃
+
+pub eight-pairs : (f : List ℕ) (o : ℕ) {x y : ℕ} → Paired f o 4 x → Paired f (o + 32) 4 y → Paired f o 8 (bitOr x y)
+eight-pairs f o {x} {y} p q = record {
+  at = λ i h. bit-or x y i ∙ ap₂ _||_ (p .at i h) (q .at i h)
+      ∙ some-more (λ j. bytes f (o + 8 * j) i && bytes f (o + 8 * j) (1 + i)) (λ j. bytes f (o + 32 + 8 * j) i && bytes f (o + 32 + 8 * j) (1 + i)) 4 4
+      (λ j. let e : o + 32 + 8 * j ≡ o + 8 * (4 + j) = omega arith in ap (λ (k : ℕ). bytes f k i && bytes f k (1 + i)) e);
+}
 
 -- ---- the masks
 
@@ -110,10 +110,6 @@ any-split f o (suc n) h =
     ∙ ap (λ (l : List ℕ). some (λ m. bad (getD f (o + m) 0)) n || any bad l) (rest f (o + n) (omega arith))
     ∙ or-assoc (some (λ m. bad (getD f (o + m) 0)) n) (bad (getD f (o + n) 0)) (any bad (drop (o + n + 1) f))
     ∙ ap (λ (k : ℕ). (some (λ m. bad (getD f (o + m) 0)) n || bad (getD f (o + n) 0)) || any bad (drop k f)) e
-  where
-    or-assoc : (a b c : Bool) → a || (b || c) ≡ (a || b) || c
-    or-assoc true b c = refl
-    or-assoc false b c = refl
 
 -- ---- the test
 

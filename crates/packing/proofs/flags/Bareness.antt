@@ -1,4 +1,4 @@
--- Eight words of eight bytes each, or-ed: the result is 0 exactly if no byte of the 64 has a bit. Bare blocks and bare bytes in a row are bare.
+-- Eight words of eight bytes each, or-ed, four and four: the result is 0 exactly if no byte of the 64 has a bit. Bare blocks and bare bytes in a row are bare.
 use Prim.Native.Nat.{ℕ, zero, suc, _+_, _-_, _*_, _/_, _%_, _^_, _≤_, _<_}
 use native.Mathlib.Omega.{arith}
 use native.Mathlib.Nat.{add-zero}
@@ -13,17 +13,12 @@ use borrow.Author.Tests.{eqb-true, eq-eqb}
 use Rattle.rules.proofs.Truth.{or-left, or-right, impossible}
 use Rattle.plane.specs.Words.{bit}
 use Rattle.packing.specs.Packing.{bytes, Eight}
-use Rattle.packing.specs.Flags.{BareBlock, Bare}
-use Rattle.plane.proofs.Cases.{le-or-lt}
+use Rattle.packing.specs.Flags.{some, Gathered, BareBlock, Bare}
+use Rattle.plane.proofs.Cases.{le-or-lt, or-false}
 use Rattle.plane.proofs.BitLaws.{bit-or, bit-above, zero-bit}
 use Rattle.plane.proofs.LowestBit.{no-bits}
 
 -- ---- one of several
-
--- g holds of one of 0 to n-1
-unfoldable pub some : (ℕ → Bool) → ℕ → Bool
-some g zero = false
-some g (suc n) = some g n || g n
 
 -- none of them, if not one
 pub some-none : (g : ℕ → Bool) (n : ℕ) → some g n ≡ false → (k : ℕ) → k < n → g k ≡ false
@@ -39,20 +34,44 @@ unfolding some
 none-some g zero f = refl
 none-some g (suc n) f = ap₂ _||_ (none-some g n (λ k h. f k (omega arith))) (f n (omega arith))
 
--- ---- words of eight bytes
+pub or-assoc : (a b c : Bool) → a || (b || c) ≡ (a || b) || c
+or-assoc true b c = refl
+or-assoc false b c = refl
 
--- x is the or of the first n words
-pub record Gathered (f : List ℕ) (o n x : ℕ) : Type 0 where
-  pub at : (i : ℕ) → i < 64 → bit x i ≡ some (λ j. bytes f (o + 8 * j) i) n
+-- one of n, or one of the m after them
+pub some-more : (g h : ℕ → Bool) (n m : ℕ) → ((j : ℕ) → h j ≡ g (n + j)) → some g n || some h m ≡ some g (n + m)
+unfolding some
+some-more g h n zero e = or-false (some g n) ∙ ap (some g) (sym (add-zero n))
+some-more g h n (suc m) e =
+    let q : suc (n + m) ≡ n + suc m = omega arith in
+    or-assoc (some g n) (some h m) (h m) ∙ ap₂ _||_ (some-more g h n m e) (e m) ∙ ap (some g) q
+
+-- ---- words of eight bytes
 
 -- the first word, and one word more
 first : (f : List ℕ) (o : ℕ) {x : ℕ} → Eight f o x → Gathered f o 1 x
 unfolding some
-first f o e = record { at = λ i h. e .reads .at i h ∙ ap (λ (k : ℕ). bytes f k i) (sym (add-zero o)) }
+first f o e = record { below = e .reads .below; at = λ i h. e .reads .at i h ∙ ap (λ (k : ℕ). bytes f k i) (sym (add-zero o)) }
 
 one-more : (f : List ℕ) (o n : ℕ) {x y : ℕ} → Gathered f o n x → Eight f (o + 8 * n) y → Gathered f o (suc n) (bitOr x y)
 unfolding some
-one-more f o n {x} {y} g e = record { at = λ i h. bit-or x y i ∙ ap₂ _||_ (g .at i h) (e .reads .at i h) }
+one-more f o n {x} {y} g e = record {
+  below = or-lt 64 x y (g .below) (e .reads .below);
+  at = λ i h. bit-or x y i ∙ ap₂ _||_ (g .at i h) (e .reads .at i h);
+}
+
+-- four words in a row, and eight
+pub four-words : (f : List ℕ) (o : ℕ) {x₀ x₁ x₂ x₃ : ℕ} → Eight f o x₀ → Eight f (o + 8) x₁ → Eight f (o + 16) x₂ → Eight f (o + 24) x₃
+    → Gathered f o 4 (bitOr (bitOr (bitOr x₀ x₁) x₂) x₃)
+four-words f o e₀ e₁ e₂ e₃ = one-more f o 3 (one-more f o 2 (one-more f o 1 (first f o e₀) e₁) e₂) e₃
+
+pub eight-words : (f : List ℕ) (o : ℕ) {x y : ℕ} → Gathered f o 4 x → Gathered f (o + 32) 4 y → Gathered f o 8 (bitOr x y)
+eight-words f o {x} {y} p q = record {
+  below = or-lt 64 x y (p .below) (q .below);
+  at = λ i h. bit-or x y i ∙ ap₂ _||_ (p .at i h) (q .at i h)
+      ∙ some-more (λ j. bytes f (o + 8 * j) i) (λ j. bytes f (o + 32 + 8 * j) i) 4 4
+      (λ j. let e : o + 32 + 8 * j ≡ o + 8 * (4 + j) = omega arith in ap (λ (k : ℕ). bytes f k i) e);
+}
 
 -- ---- no bit
 
@@ -63,7 +82,7 @@ byte-bit f o m k i j e d =
     let q : o + 8 * j + i / 8 ≡ o + m = omega arith in
     ap₂ (λ (n r : ℕ). bit (getD f n 0) r) q e
 
-module _ (f : List ℕ) (o x : ℕ) (g : Gathered f o 8 x) (b : x < 2 ^ 64) where
+module _ (f : List ℕ) (o x : ℕ) (g : Gathered f o 8 x) where
   -- an or of 0 tells that no byte has a bit
   clear : x ≡ 0 → (m k : ℕ) → m < 64 → k < 8 → bit (getD f (o + m) 0) k ≡ false
   clear e m k h l =
@@ -78,28 +97,11 @@ module _ (f : List ℕ) (o x : ℕ) (g : Gathered f o 8 x) (b : x < 2 ^ 64) wher
       ∙ none-some (λ j. bytes f (o + 8 * j) i) 8 (λ j l. byte-bit f o (8 * j + i / 8) (i % 8) i j refl refl ∙ q (8 * j + i / 8) (i % 8) (omega arith) (omega arith))
 
   bare-is : BareBlock f o (eqb x 0)
-  bare-is = record { yes = λ e. clear (eqb-true x 0 e); no = λ q. eq-eqb x 0 (no-bits x b (none q)) }
-
--- eight words in a row
-pub eight-words : (f : List ℕ) (o : ℕ) {x₀ x₁ x₂ x₃ x₄ x₅ x₆ x₇ : ℕ} → Eight f o x₀ → Eight f (o + 8) x₁ → Eight f (o + 16) x₂ → Eight f (o + 24) x₃
-    → Eight f (o + 32) x₄ → Eight f (o + 40) x₅ → Eight f (o + 48) x₆ → Eight f (o + 56) x₇
-    → Gathered f o 8 (bitOr (bitOr (bitOr (bitOr (bitOr (bitOr (bitOr x₀ x₁) x₂) x₃) x₄) x₅) x₆) x₇)
-eight-words f o e₀ e₁ e₂ e₃ e₄ e₅ e₆ e₇ =
-    one-more f o 7 (one-more f o 6 (one-more f o 5 (one-more f o 4 (one-more f o 3 (one-more f o 2 (one-more f o 1 (first f o e₀) e₁) e₂) e₃) e₄) e₅) e₆) e₇
+  bare-is = record { yes = λ e. clear (eqb-true x 0 e); no = λ q. eq-eqb x 0 (no-bits x (g .below) (none q)) }
 
 -- the or of eight words in a row tells whether the block is bare
-pub block-is : (f : List ℕ) (o : ℕ) {x₀ x₁ x₂ x₃ x₄ x₅ x₆ x₇ : ℕ} → Eight f o x₀ → Eight f (o + 8) x₁ → Eight f (o + 16) x₂ → Eight f (o + 24) x₃
-    → Eight f (o + 32) x₄ → Eight f (o + 40) x₅ → Eight f (o + 48) x₆ → Eight f (o + 56) x₇
-    → BareBlock f o (eqb (bitOr (bitOr (bitOr (bitOr (bitOr (bitOr (bitOr x₀ x₁) x₂) x₃) x₄) x₅) x₆) x₇) 0)
-block-is f o {x₀} {x₁} {x₂} {x₃} {x₄} {x₅} {x₆} {x₇} e₀ e₁ e₂ e₃ e₄ e₅ e₆ e₇ =
-    let b₁ = or-lt 64 x₀ x₁ (e₀ .reads .below) (e₁ .reads .below) in
-    let b₂ = or-lt 64 (bitOr x₀ x₁) x₂ b₁ (e₂ .reads .below) in
-    let b₃ = or-lt 64 (bitOr (bitOr x₀ x₁) x₂) x₃ b₂ (e₃ .reads .below) in
-    let b₄ = or-lt 64 (bitOr (bitOr (bitOr x₀ x₁) x₂) x₃) x₄ b₃ (e₄ .reads .below) in
-    let b₅ = or-lt 64 (bitOr (bitOr (bitOr (bitOr x₀ x₁) x₂) x₃) x₄) x₅ b₄ (e₅ .reads .below) in
-    let b₆ = or-lt 64 (bitOr (bitOr (bitOr (bitOr (bitOr x₀ x₁) x₂) x₃) x₄) x₅) x₆ b₅ (e₆ .reads .below) in
-    let b₇ = or-lt 64 (bitOr (bitOr (bitOr (bitOr (bitOr (bitOr x₀ x₁) x₂) x₃) x₄) x₅) x₆) x₇ b₆ (e₇ .reads .below) in
-    bare-is f o _ (eight-words f o e₀ e₁ e₂ e₃ e₄ e₅ e₆ e₇) b₇
+pub block-is : (f : List ℕ) (o : ℕ) {x y : ℕ} → Gathered f o 4 x → Gathered f (o + 32) 4 y → BareBlock f o (eqb (bitOr x y) 0)
+block-is f o {x} {y} p q = bare-is f o (bitOr x y) (eight-words f o p q)
 
 -- ---- a byte
 
