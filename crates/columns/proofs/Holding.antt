@@ -16,7 +16,7 @@ use Rattle.machine.specs.Places.{test, idle, anyIn, placeAt, placed}
 use Rattle.columns.specs.Columns.{Rows, Sized, none, placeIn, placesIn, placesOf, columnAt, idleColumn}
 use Rattle.columns.specs.Masks.{coversFrom, phantomFrom, CoverMask, PhantomMask, Masked, AllMasked}
 use Rattle.columns.specs.Post.{Dropped, Kept, anyOf, insideFrom, militaryFrom}
-use Rattle.edges.proofs.BitLaws.{zero-bit}
+use Rattle.plane.proofs.BitLaws.{zero-bit}
 use Rattle.columns.proofs.ColumnLaws.{open-there, idle-place}
 use Rattle.columns.proofs.MaskLaws.{not-covered}
 

@@ -8,8 +8,8 @@ use lib.Dec.{leb, ltb, eqb}
 use borrow.Author.Tests.{ltb-true, ltb-false, leb-true, leb-false, eqb-true, eqb-false, le-leb, lt-leb, ne-eqb}
 use Rattle.rules.specs.Replies.{position, isPosition}
 use Rattle.rules.proofs.Truth.{impossible, and-left, and-right}
-use Rattle.edges.specs.Words.{bit, Holds, Slid}
-use Rattle.edges.proofs.BitLaws.{zero-bit}
+use Rattle.plane.specs.Words.{bit, Holds, Slid}
+use Rattle.plane.proofs.BitLaws.{zero-bit}
 use Rattle.columns.specs.Masks.{coversFrom, phantomFrom, coverWord, phantomWord, Across, CoverMask, PhantomMask}
 
 -- ---- all numbers below n pass

@@ -7,7 +7,7 @@ use lib.Dec.{leb, eqb}
 use lib.ListN.{length, getD}
 use Rattle.rules.specs.Replies.{position, isPosition, covers, isPhantom}
 use Rattle.machine.specs.Places.{test}
-use Rattle.edges.specs.Words.{bit}
+use Rattle.plane.specs.Words.{bit}
 use Rattle.columns.specs.Columns.{Rows, Column, columnAt}
 
 -- a reply with F1 at q covers u

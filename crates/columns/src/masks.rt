@@ -2,8 +2,8 @@
 ghost use Prim.Native.Nat.{ℕ, _+_, _<_};
 ghost use mathlib.Core.Path.{_≡_};
 ghost use Rattle.columns.specs.Masks.{coverWord, phantomWord, Across, coversFrom, CoverMask, PhantomMask};
-use edges::words::marked;
-use edges::words::slide;
+use plane::marked;
+use plane::slide;
 
 // Of the ticks from 65 before F1 on, the k-th 64: those that a reply covers.
 fn cover_word(k: u32) -> u64

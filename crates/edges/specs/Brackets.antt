@@ -2,7 +2,7 @@
 -- The ticks u asked about are the 64 from b+23 on. "A bracket stands at edge u if an edge stands at u+168; else at u+167; else at u+169."
 use Prim.Native.Nat.{ℕ, _+_}
 use mathlib.Core.Bool.{Bool}
-use Rattle.edges.specs.Words.{Holds}
+use Rattle.plane.specs.Words.{Holds}
 
 -- the edges at u
 pub record Due (e₂ e₃ r : ℕ) : Type 0 where

@@ -5,7 +5,7 @@ use Rattle.rules.specs.Samples.{A, P, N}
 use Rattle.rules.specs.Sentences.{leadAt}
 use Rattle.edges.specs.declared.detection.Past.{Past}
 use Rattle.edges.specs.declared.detection.Found.{Found}
-use Rattle.edges.specs.Words.{Holds}
+use Rattle.plane.specs.Words.{Holds}
 use Rattle.edges.specs.Planes.{fallsAt, calmAt, chainAt, untrailed, drawnOut, hasEdge}
 
 -- A and P of the ticks b to b+127 give the leads of b+62 to b+125

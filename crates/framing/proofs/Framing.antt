@@ -26,7 +26,7 @@ use Rattle.replies.specs.Sums.{wrapped}
 use Rattle.replies.proofs.ReplyLaws.{within}
 use Rattle.machine.specs.Places.{test, always, any3, anyIn, countIn, pushed, withoutIn, openedIn, fateIn, placesAfter, bracketOn, bracketIf, placed}
 use Rattle.machine.proofs.Placed.{without-placed, count-placed}
-use Rattle.edges.specs.Words.{bit}
+use Rattle.plane.specs.Words.{bit}
 use Rattle.columns.specs.Columns.{Rows, Sized, none, placeIn, placesIn, placesOf, machineAt, columnAt}
 use Rattle.columns.specs.Masks.{coversFrom, Masked, AllMasked, PutMasks, OpenMaskPost}
 use Rattle.columns.specs.Post.{Put, PutPost, anyOf, insideFrom, militaryFrom}

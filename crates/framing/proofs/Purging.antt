@@ -17,8 +17,8 @@ use Rattle.rules.proofs.Truth.{impossible, or-left, or-right, same-or}
 use Rattle.rules.proofs.ListLaws.{filter-none, reject-none, reject-short}
 use Rattle.machine.specs.Places.{test, idle, anyIn, placeAt, placed}
 use Rattle.machine.proofs.Placed.{any-placed}
-use Rattle.edges.specs.Words.{bit}
-use Rattle.edges.proofs.BitLaws.{bit-or}
+use Rattle.plane.specs.Words.{bit}
+use Rattle.plane.proofs.BitLaws.{bit-or}
 use Rattle.columns.specs.Columns.{Rows, Sized, placesIn, placesOf, columnAt}
 use Rattle.columns.specs.Masks.{AllMasked}
 use Rattle.columns.specs.Post.{DropPost, Kept}

@@ -16,7 +16,7 @@ use Rattle.rules.specs.Replies.{f1, isPhantom}
 use Rattle.rules.specs.Machine.{openedBy}
 use Rattle.replies.specs.Sums.{wrapped}
 use Rattle.machine.specs.Places.{any3, pushed, placed, bracketOn, bracketIf}
-use Rattle.edges.specs.Words.{bit}
+use Rattle.plane.specs.Words.{bit}
 use Rattle.columns.specs.Columns.{Rows, none, Sized, placesOf, machineAt}
 use Rattle.columns.specs.Masks.{AllMasked}
 use Rattle.columns.specs.Post.{DropPost, Kept, anyOf, insideFrom, militaryFrom}

@@ -8,8 +8,8 @@ use lib.ListN.{length, getD, length-append}
 use lib.Seq.{getD-append-add}
 use Rattle.rules.specs.Samples.{A, P, N, M, odd}
 use Rattle.rules.specs.Sentences.{leadAt}
-use Rattle.edges.specs.declared.packing.Planes.{Planes}
-use Rattle.edges.specs.Words.{bit, Holds, Slid}
+use Rattle.packing.specs.declared.Planes.{Planes}
+use Rattle.plane.specs.Words.{bit, Holds, Slid}
 use Rattle.edges.specs.Planes.{calmAt, chainAt, hasEdge}
 use Rattle.edges.specs.Detection.{Ahead, Detected}
 use Rattle.front.specs.declared.words.Front.{Front}

@@ -11,7 +11,7 @@ use Rattle.rules.specs.Sentences.{leadAt}
 use Rattle.rules.proofs.Runs.{lead-A, falls-A, low-without-A, place-two}
 use Rattle.rules.proofs.PastEnd.{zeros-alike}
 use Rattle.edges.specs.Planes.{fallsAt, calmAt, chainOf, chainAt, hasEdge}
-use Rattle.edges.proofs.PlaneLaws.{holds-none}
+use Rattle.plane.proofs.PlaneLaws.{holds-none}
 use Rattle.front.specs.Words.{padded, frontOf}
 use Rattle.front.proofs.Growing.{padded-none}
 use Rattle.front.proofs.Advancing.{front-is}

@@ -17,9 +17,9 @@ use Rattle.rules.specs.Samples.{Trace, M}
 use Rattle.rules.specs.Edges.{stands, edgeAt}
 use Rattle.rules.specs.Machine.{bracketOf, bracketAt}
 use Rattle.rules.proofs.Truth.{impossible, or-left, or-right}
-use Rattle.edges.specs.Words.{bit, Holds, Slid}
+use Rattle.plane.specs.Words.{bit, Holds, Slid}
 use Rattle.edges.specs.Planes.{hasEdge}
-use Rattle.edges.proofs.BitLaws.{bit-and, bit-or, bit-not}
+use Rattle.plane.proofs.BitLaws.{bit-and, bit-or, bit-not}
 use Rattle.edges.specs.Brackets.{Due, At168, At167}
 use Rattle.front.specs.declared.words.Front.{Front}
 use Rattle.front.specs.declared.span.Span.{Span}

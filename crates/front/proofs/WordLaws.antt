@@ -6,8 +6,8 @@ use mathlib.Core.Bool.{Bool, true, false, cond}
 use lib.Pow.{shr-shr}
 use borrow.Author.Tests.{eqb-true, eqb-false, eq-eqb, ne-eqb}
 use Rattle.rules.specs.Samples.{odd}
-use Rattle.edges.specs.Words.{bit, Holds}
-use Rattle.edges.proofs.BitLaws.{bit-shr, left, left-low, left-high}
+use Rattle.plane.specs.Words.{bit, Holds}
+use Rattle.plane.proofs.BitLaws.{bit-shr, left, left-low, left-high}
 use Rattle.front.specs.Words.{wordFrom, wordOf}
 use Rattle.front.specs.Post.{TopPost}
 

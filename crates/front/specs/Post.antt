@@ -7,8 +7,8 @@ use lib.Bits.{bitAnd, bitOr}
 use lib.Dec.{leb, eqb}
 use lib.ListN.{length, getD}
 use Rattle.rules.specs.Samples.{Trace, A, P, N, M}
-use Rattle.edges.specs.declared.packing.Planes.{Planes}
-use Rattle.edges.specs.Words.{bit, Holds}
+use Rattle.packing.specs.declared.Planes.{Planes}
+use Rattle.plane.specs.Words.{bit, Holds}
 use Rattle.rules.specs.declared.Pulse.{Pulse}
 use Rattle.rules.specs.declared.Bracket.{Bracket}
 use Rattle.rules.specs.declared.Bracket.the-variants.{Without, With}

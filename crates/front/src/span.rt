@@ -2,15 +2,15 @@
 ghost use Prim.Native.Nat.{ℕ, _+_, _<_, _≤_};
 ghost use mathlib.Core.Path.{_≡_};
 ghost use mathlib.Core.Bool.{_||_, cond};
-ghost use Rattle.edges.specs.Words.{bit};
+ghost use Rattle.plane.specs.Words.{bit};
 ghost use Rattle.front.specs.Post.{SpanPost, TopPost, pulseIn, soonerIn, laterIn, bracketIn};
 use super::values::value_at;
 use super::words::Front;
 use edges::brackets::at167;
 use edges::brackets::at168;
 use edges::brackets::due;
-use edges::words::marked;
-use edges::words::slide;
+use plane::marked;
+use plane::slide;
 use rules::Bracket;
 use rules::Pulse;
 use rules::Tick;

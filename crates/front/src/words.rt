@@ -6,8 +6,8 @@ ghost use Rattle.front.specs.Words.{frontOf};
 ghost use Rattle.front.specs.Post.{AdvancePost, still};
 use edges::detection::Past;
 use edges::detection::detect_or_skip;
-use edges::packing::Planes;
-use edges::words::slide;
+use packing::Planes;
+use plane::slide;
 
 // Words of 64 ticks, bit i for the i-th tick of the word; a 1 behind a name: the 64 ticks before.
 pub struct Front {

@@ -25,8 +25,8 @@ use Rattle.rules.proofs.Truth.{impossible, or-left, or-right, and-left}
 use Rattle.replies.specs.Sums.{wrapped}
 use Rattle.machine.specs.Places.{test, testSlot, any3, positionIn, reaches, hearAt, dealt}
 use Rattle.machine.proofs.PlaceLaws.{covers-in, deal-by, deal-quiet}
-use Rattle.edges.specs.Words.{bit}
-use Rattle.edges.proofs.BitLaws.{bit-and, bit-or}
+use Rattle.plane.specs.Words.{bit}
+use Rattle.plane.proofs.BitLaws.{bit-and, bit-or}
 use Rattle.columns.specs.Columns.{none, marksOf, wordAt, referenceAt, placeIn, placesIn}
 use Rattle.columns.specs.Masks.{coversFrom}
 use Rattle.columns.specs.Post.{Wrote, WordPost, ReferencePost}

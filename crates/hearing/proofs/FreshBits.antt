@@ -11,8 +11,8 @@ use borrow.Author.Tests.{leb-true, leb-false, eqb-true}
 use Rattle.rules.specs.Samples.{bit as digit}
 use Rattle.rules.specs.Replies.{isPosition, isInside, bitOf, takes}
 use Rattle.rules.proofs.Truth.{impossible}
-use Rattle.edges.specs.Words.{bit}
-use Rattle.edges.proofs.BitLaws.{bit-not, bit-mod, bit-above}
+use Rattle.plane.specs.Words.{bit}
+use Rattle.plane.proofs.BitLaws.{bit-not, bit-mod, bit-above}
 
 -- ---- one bit of a word
 

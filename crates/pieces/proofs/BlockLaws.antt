@@ -16,7 +16,7 @@ use Rattle.machine.specs.Places.{machineOf}
 use Rattle.columns.specs.Columns.{Rows, Sized, machineAt}
 use Rattle.rules.specs.Buffers.{over-at}
 use Rattle.rules.proofs.Buffers.{over-at-more}
-use Rattle.edges.specs.declared.packing.Planes.{Planes}
+use Rattle.packing.specs.declared.Planes.{Planes}
 use Rattle.front.specs.declared.words.Front.{Front}
 use Rattle.front.specs.declared.span.Span.{Span}
 use Rattle.pieces.specs.declared.blocks.Run.{Run}

@@ -19,12 +19,12 @@ use Rattle.rules.proofs.Truth.{and-left, and-right}
 use Rattle.rules.proofs.ListLaws.{filter-none}
 use Rattle.rules.proofs.Buffers.{over-at-nil}
 use Rattle.records.proofs.Handing.{all-open, retired-same}
-use Rattle.edges.specs.declared.packing.Planes.{Planes}
-use Rattle.edges.specs.Words.{Holds, Slid}
+use Rattle.packing.specs.declared.Planes.{Planes}
+use Rattle.plane.specs.Words.{Holds, Slid}
 use Rattle.edges.specs.Detection.{Detected}
 use Rattle.edges.specs.Brackets.{Due}
-use Rattle.edges.proofs.BitLaws.{zero-bit}
-use Rattle.edges.proofs.PlaneLaws.{holds-none}
+use Rattle.plane.proofs.BitLaws.{zero-bit}
+use Rattle.plane.proofs.PlaneLaws.{holds-none}
 use Rattle.edges.proofs.detection.LowTicks.{skipped}
 use Rattle.front.specs.declared.words.Front.{Front}
 use Rattle.front.specs.declared.span.Span.{Span}

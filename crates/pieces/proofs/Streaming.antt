@@ -19,12 +19,12 @@ use Rattle.rules.proofs.Apart.{edge-end}
 use Rattle.rules.proofs.Joining.{append-same, fresh-join, handed-fresh}
 use Rattle.rules.proofs.HandingOut.{fresh-most, rest-most}
 use Rattle.rules.proofs.PastEnd.{zeros-alike, edge-silence, rest-silence}
-use Rattle.edges.specs.declared.packing.Planes.{Planes}
-use Rattle.edges.specs.Words.{Holds, HoldsPart}
-use Rattle.edges.specs.Packing.{Packed, PackedPart}
-use Rattle.edges.specs.Flags.{BareBlock}
-use Rattle.edges.proofs.packing.FlagBits.{A-bit, P-bit, N-bit, M-bit}
-use Rattle.edges.proofs.BitLaws.{zero-bit, bit-above}
+use Rattle.packing.specs.declared.Planes.{Planes}
+use Rattle.plane.specs.Words.{Holds, HoldsPart}
+use Rattle.packing.specs.Packing.{Packed, PackedPart}
+use Rattle.packing.specs.Flags.{BareBlock}
+use Rattle.packing.proofs.FlagBits.{A-bit, P-bit, N-bit, M-bit}
+use Rattle.plane.proofs.BitLaws.{zero-bit, bit-above}
 use Rattle.rules.specs.Buffers.{over-at}
 use Rattle.machine.specs.Places.{machineOf}
 use Rattle.rules.specs.declared.Places.{Places}

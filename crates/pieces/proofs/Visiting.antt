@@ -31,7 +31,7 @@ use Rattle.machine.proofs.Steps.{balanced-small, edge-post}
 use Rattle.machine.specs.Post.{Small, f2Value, Fits, EdgePost}
 use Rattle.records.specs.Post.{Queue}
 use Rattle.records.proofs.Handing.{ordered-queue}
-use Rattle.edges.specs.Words.{bit}
+use Rattle.plane.specs.Words.{bit}
 use Rattle.columns.specs.Columns.{Rows, Sized, placesOf, machineAt}
 use Rattle.columns.specs.Masks.{AllMasked}
 use Rattle.lanes.specs.Post.{HandPost}

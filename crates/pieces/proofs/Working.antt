@@ -32,8 +32,8 @@ use Rattle.columns.specs.Columns.{Rows, Sized, none, machineAt, FitsPlace}
 use Rattle.columns.specs.Masks.{AllMasked}
 use Rattle.lanes.specs.Post.{HandPost, Loaded, LoadPost, MasksPost}
 use Rattle.rules.proofs.Buffers.{over-at-more, over-at-nil}
-use Rattle.edges.specs.Words.{bit, Lowest, WithoutLowest}
-use Rattle.edges.proofs.BitLaws.{zero-bit}
+use Rattle.plane.specs.Words.{bit, Lowest, WithoutLowest}
+use Rattle.plane.proofs.BitLaws.{zero-bit}
 use Rattle.front.specs.declared.span.Span.{Span}
 use Rattle.pieces.specs.Steps.{stateAt, Shows, Retired, Gives, Keeps, VisitPost, LatePost, WorkPost}
 use Rattle.front.specs.Post.{TopPost}

@@ -21,7 +21,7 @@ use Rattle.columns.specs.Columns.{Rows, Sized, machineAt}
 use Rattle.columns.specs.Masks.{AllMasked}
 use Rattle.lanes.specs.Post.{HandPost}
 use Rattle.rules.specs.Buffers.{over-at}
-use Rattle.edges.specs.declared.packing.Planes.{Planes}
+use Rattle.packing.specs.declared.Planes.{Planes}
 use Rattle.front.specs.declared.words.Front.{Front}
 use Rattle.front.specs.declared.span.Span.{Span}
 use Rattle.pieces.specs.declared.blocks.Run.{Run}

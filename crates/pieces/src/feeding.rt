@@ -2,18 +2,18 @@
 ghost use Prim.Native.Nat.{_+_, _≤_, _<_};
 ghost use mathlib.Core.Path.{_≡_};
 ghost use lib.ListN.{length};
-ghost use Rattle.edges.specs.Packing.{PackedPart};
+ghost use Rattle.packing.specs.Packing.{PackedPart};
 ghost use Rattle.pieces.specs.Steps.{blockLength, BlocksPost, ColumnsPost, RunPost, FeedPost, DrainPost};
 use super::blocks::Run;
 use super::blocks::Stand;
 use super::blocks::block;
 use super::blocks::stays;
 use columns::rows::places_of;
-use edges::flags::bare_block;
-use edges::packing::Planes;
-use edges::packing::pack;
-use edges::packing::pack_part;
 use lanes::load;
+use packing::Planes;
+use packing::flags::bare_block;
+use packing::pack;
+use packing::pack_part;
 use rules::Machine;
 
 // The planes of r ticks from o on.

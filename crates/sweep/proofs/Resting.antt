@@ -16,11 +16,11 @@ use Rattle.rules.specs.Replies.{f1, ended}
 use Rattle.rules.specs.Calls.{takeRoom, fresh}
 use Rattle.rules.proofs.Truth.{impossible}
 use Rattle.columns.specs.Columns.{Rows}
-use Rattle.edges.specs.declared.packing.Planes.{Planes}
-use Rattle.edges.specs.Words.{HoldsPart}
-use Rattle.edges.specs.Packing.{PackedPart}
-use Rattle.edges.specs.Flags.{Bare}
-use Rattle.edges.proofs.BitLaws.{zero-bit}
+use Rattle.packing.specs.declared.Planes.{Planes}
+use Rattle.plane.specs.Words.{HoldsPart}
+use Rattle.packing.specs.Packing.{PackedPart}
+use Rattle.packing.specs.Flags.{Bare}
+use Rattle.plane.proofs.BitLaws.{zero-bit}
 use Rattle.sweep.specs.declared.Processor.{Processor}
 use Rattle.front.specs.declared.words.Front.{Front}
 use Rattle.pieces.specs.declared.blocks.Stand.{Stand}

@@ -6,10 +6,10 @@ ghost use Rattle.whole.specs.Post.{wholeRoom, wholeAnswer, numberOf, Tak
 ghost use Rattle.rules.specs.Buffers.{over};
 ghost use Rattle.frames.specs.Writing.{totalsBytes};
 use columns::rows::places_of;
-use edges::flags::has_bad;
 use frames::totals_bytes;
 use front::values::keep;
 use lanes::load;
+use packing::flags::has_bad;
 use pieces::blocks::Stand;
 use pieces::feeding::feed_columns;
 use rules::Machine;

@@ -3,8 +3,8 @@ use Prim.Native.Nat.{ℕ, _+_}
 use native.Mathlib.Omega.{arith}
 use mathlib.Core.Path.{_≡_, subst}
 use mathlib.Core.Bool.{Bool}
-use Rattle.edges.specs.Words.{Holds}
-use Rattle.edges.proofs.PlaneLaws.{back, holds-ahead, holds-back}
+use Rattle.plane.specs.Words.{Holds}
+use Rattle.plane.proofs.PlaneLaws.{back, holds-ahead, holds-back}
 
 module _ {E : ℕ → Bool} (b : ℕ) {e e₁ : ℕ} (h₁ : Holds E (b + 128) e₁) (h : Holds E (b + 192) e) where
   newer : Holds E (b + 128 + 64) e

@@ -8,10 +8,10 @@ use lib.Bits.{bitAnd}
 use Rattle.rules.specs.Samples.{A, P, N}
 use Rattle.rules.specs.Sentences.{leadAt}
 use Rattle.edges.specs.declared.detection.Past.{Past}
-use Rattle.edges.specs.Words.{Holds}
+use Rattle.plane.specs.Words.{Holds}
 use Rattle.edges.specs.Planes.{fallsAt, calmAt, chainAt}
 use Rattle.edges.specs.Detection.{Leads, Trails, Chain, Edges, Behind, Ahead}
-use Rattle.edges.proofs.PlaneLaws.{inv, holds-and, holds-not}
+use Rattle.plane.proofs.PlaneLaws.{inv, holds-and, holds-not}
 
 -- the same word, its first tick written otherwise
 on : {G : ℕ → Bool} {x : ℕ} (c d : ℕ) → c ≡ d → Holds G c x → Holds G d x

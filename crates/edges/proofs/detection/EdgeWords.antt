@@ -17,9 +17,9 @@ use Rattle.rules.specs.Settings.{standard}
 use Rattle.rules.specs.Edges.{noEdge, actual, pseudo, extra, isEdge, lead, falls, trailWithin, goesOn, noTrail, inRun, kind, since, ageAt, kindAt}
 use Rattle.rules.specs.Sentences.{leadAt}
 use Rattle.rules.proofs.Truth.{impossible}
-use Rattle.edges.specs.Words.{Holds}
+use Rattle.plane.specs.Words.{Holds}
 use Rattle.edges.specs.Planes.{fallsAt, calmAt, chainOf, chainAt, untrailed, drawnOut, hasEdge}
-use Rattle.edges.proofs.PlaneLaws.{inv, back, holds-and, holds-or, holds-not, holds-eq, holds-behind, place, newest}
+use Rattle.plane.proofs.PlaneLaws.{inv, back, holds-and, holds-or, holds-not, holds-eq, holds-behind, place, newest}
 use Rattle.edges.proofs.detection.RunLaws as run
 use Rattle.edges.proofs.detection.RunLaws.{ends, ends-are, edge-bools, chain-small}
 use Rattle.edges.proofs.detection.ChainWords.{age-first, age-step}

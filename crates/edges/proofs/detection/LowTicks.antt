@@ -12,12 +12,12 @@ use Rattle.rules.specs.Edges.{lead, falls, age, since, ageAt}
 use Rattle.rules.specs.Sentences.{leadAt}
 use Rattle.rules.proofs.Truth.{or-left, or-right}
 use Rattle.edges.specs.declared.detection.Past.{Past}
-use Rattle.edges.specs.Words.{bit, Holds}
+use Rattle.plane.specs.Words.{bit, Holds}
 use Rattle.edges.specs.Planes.{fallsAt, calmAt, chainOf, chainAt, hasEdge}
 use Rattle.edges.specs.Detection.{Behind, Ahead}
-use Rattle.edges.proofs.Cases.{le-or-lt}
-use Rattle.edges.proofs.BitLaws.{bit-or, zero-bit}
-use Rattle.edges.proofs.PlaneLaws.{holds-none}
+use Rattle.plane.proofs.Cases.{le-or-lt}
+use Rattle.plane.proofs.BitLaws.{bit-or, zero-bit}
+use Rattle.plane.proofs.PlaneLaws.{holds-none}
 use Rattle.edges.proofs.detection.Shapes.{A-now}
 use Rattle.edges.proofs.detection.EdgeWords.{edge-rule}
 

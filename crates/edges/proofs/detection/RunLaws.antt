@@ -12,7 +12,7 @@ use lib.Dec.{eqb, ltb}
 use borrow.Author.Tests.{lt-ltb, le-ltb, ne-eqb, eqb-true}
 use Rattle.rules.proofs.Truth.{impossible}
 use Rattle.edges.specs.Planes.{chainOf}
-use Rattle.edges.proofs.Cases.{le-or-lt, and-false, is-true}
+use Rattle.plane.proofs.Cases.{le-or-lt, and-false, is-true}
 
 -- ---- one tick
 

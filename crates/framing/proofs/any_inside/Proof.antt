@@ -5,7 +5,7 @@ use Rattle.framing.proofs.any_inside.Statement.{statement}
 use Rattle.framing.proofs.any_inside.Tie as tie
 use Rattle.framing.proofs.any_inside.Reads as reads
 use Rattle.framing.proofs.any_inside.Lts as lts
-use Rattle.edges.proofs.words.marked.Reads as marked-reads
+use Rattle.plane.proofs.marked.Reads as marked-reads
 use Rattle.framing.proofs.inside_from.Reads as inside-from-reads
 use Rattle.machine.proofs.any4.Reads as any4-reads
 

@@ -6,7 +6,7 @@ use Rattle.framing.proofs.frame.Statement.{statement}
 use Rattle.framing.proofs.frame.Tie as tie
 use Rattle.framing.proofs.frame.Reads as reads
 use Rattle.framing.proofs.frame.Lts as lts
-use Rattle.edges.proofs.words.marked.Reads as marked-reads
+use Rattle.plane.proofs.marked.Reads as marked-reads
 use Rattle.framing.proofs.is_clear.Reads as is-clear-reads
 use Rattle.framing.proofs.open_reply.Reads as open-reply-reads
 use Rattle.framing.proofs.purge.Reads as purge-reads

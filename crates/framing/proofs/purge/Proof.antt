@@ -6,7 +6,7 @@ use Rattle.framing.proofs.purge.Statement.{statement}
 use Rattle.framing.proofs.purge.Tie as tie
 use Rattle.framing.proofs.purge.Reads as reads
 use Rattle.framing.proofs.purge.Lts as lts
-use Rattle.edges.proofs.words.marked.Reads as marked-reads
+use Rattle.plane.proofs.marked.Reads as marked-reads
 use Rattle.framing.proofs.drop_if.Reads as drop-if-reads
 
 -- src/steps.rt:164:16

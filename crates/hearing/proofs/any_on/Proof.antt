@@ -6,7 +6,7 @@ use Rattle.hearing.proofs.any_on.Statement.{statement}
 use Rattle.hearing.proofs.any_on.Tie as tie
 use Rattle.hearing.proofs.any_on.Reads as reads
 use Rattle.hearing.proofs.any_on.Lts as lts
-use Rattle.edges.proofs.words.marked.Reads as marked-reads
+use Rattle.plane.proofs.marked.Reads as marked-reads
 use Rattle.machine.proofs.any4.Reads as any4-reads
 
 -- src/steps.rt:390:20

@@ -5,7 +5,7 @@ use Rattle.hearing.proofs.deal.Statement.{statement}
 use Rattle.hearing.proofs.deal.Tie as tie
 use Rattle.hearing.proofs.deal.Reads as reads
 use Rattle.hearing.proofs.deal.Lts as lts
-use Rattle.edges.proofs.words.marked.Reads as marked-reads
+use Rattle.plane.proofs.marked.Reads as marked-reads
 use Rattle.hearing.proofs.hear.Reads as hear-reads
 use Rattle.hearing.proofs.hear_if.Reads as hear-if-reads
 use Rattle.hearing.proofs.speaks.Reads as speaks-reads

@@ -7,7 +7,7 @@ use Rattle.whole.proofs.refusal.Statement.{statement}
 use Rattle.whole.proofs.refusal.Tie as tie
 use Rattle.whole.proofs.refusal.Reads as reads
 use Rattle.whole.proofs.refusal.Lts as lts
-use Rattle.edges.proofs.flags.has_bad.Reads as has-bad-reads
+use Rattle.packing.proofs.flags.has_bad.Reads as has-bad-reads
 use Rattle.whole.proofs.room_for.Reads as room-for-reads
 
 -- src/lib.rt:50:9

@@ -8,7 +8,7 @@ use Rattle.columns.proofs.masks.across.Statement.{statement}
 use Rattle.columns.proofs.masks.across.Tie as tie
 use Rattle.columns.proofs.masks.across.Reads as reads
 use Rattle.columns.proofs.masks.across.Lts as lts
-use Rattle.edges.proofs.words.slide.Reads as slide-reads
+use Rattle.plane.proofs.slide.Reads as slide-reads
 
 -- src/masks.rt:39:9
 returns : tie.Need-returns

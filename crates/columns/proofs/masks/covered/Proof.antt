@@ -7,7 +7,7 @@ use Rattle.columns.proofs.masks.covered.Tie as tie
 use Rattle.columns.proofs.masks.covered.Reads as reads
 use Rattle.columns.proofs.masks.covered.Lts as lts
 use Rattle.columns.proofs.masks.cover_word.Reads as cover-word-reads
-use Rattle.edges.proofs.words.marked.Reads as marked-reads
+use Rattle.plane.proofs.marked.Reads as marked-reads
 use Rattle.std.proofs.num.wrapping_sub_u64.Reads as wrapping-sub-u64-reads
 
 -- src/masks.rt:85:40

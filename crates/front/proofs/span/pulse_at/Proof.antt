@@ -4,7 +4,7 @@ use Rattle.front.proofs.span.pulse_at.Statement.{statement}
 use Rattle.front.proofs.span.pulse_at.Tie as tie
 use Rattle.front.proofs.span.pulse_at.Reads as reads
 use Rattle.front.proofs.span.pulse_at.Lts as lts
-use Rattle.edges.proofs.words.marked.Reads as marked-reads
+use Rattle.plane.proofs.marked.Reads as marked-reads
 
 -- src/span.rt:71:9
 marked-requires : tie.Need-marked-requires

@@ -8,7 +8,7 @@ use Rattle.front.proofs.span.span_of.Lts as lts
 use Rattle.edges.proofs.brackets.at167.Reads as at167-reads
 use Rattle.edges.proofs.brackets.at168.Reads as at168-reads
 use Rattle.edges.proofs.brackets.due.Reads as due-reads
-use Rattle.edges.proofs.words.slide.Reads as slide-reads
+use Rattle.plane.proofs.slide.Reads as slide-reads
 
 -- src/span.rt:31:9
 due-requires : tie.Need-due-requires

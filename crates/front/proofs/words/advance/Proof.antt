@@ -6,7 +6,7 @@ use Rattle.front.proofs.words.advance.Tie as tie
 use Rattle.front.proofs.words.advance.Reads as reads
 use Rattle.front.proofs.words.advance.Lts as lts
 use Rattle.edges.proofs.detection.detect_or_skip.Reads as detect-or-skip-reads
-use Rattle.edges.proofs.words.slide.Reads as slide-reads
+use Rattle.plane.proofs.slide.Reads as slide-reads
 
 -- src/front.rt:45:9
 slide-requires : tie.Need-slide-requires

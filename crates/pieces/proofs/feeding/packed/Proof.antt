@@ -4,9 +4,9 @@ use Rattle.pieces.proofs.feeding.packed.Statement.{statement}
 use Rattle.pieces.proofs.feeding.packed.Tie as tie
 use Rattle.pieces.proofs.feeding.packed.Reads as reads
 use Rattle.pieces.proofs.feeding.packed.Lts as lts
-use Rattle.edges.proofs.flags.bare_block.Reads as bare-block-reads
-use Rattle.edges.proofs.packing.pack.Reads as pack-reads
-use Rattle.edges.proofs.packing.pack_part.Reads as pack-part-reads
+use Rattle.packing.proofs.flags.bare_block.Reads as bare-block-reads
+use Rattle.packing.proofs.pack.Reads as pack-reads
+use Rattle.packing.proofs.pack_part.Reads as pack-part-reads
 
 -- src/pieces.rt:20:12
 bare-block-requires : tie.Need-bare-block-requires

@@ -1,0 +1,2 @@
+-- What the functions on words answer.
+pub mod Words
