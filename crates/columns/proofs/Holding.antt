@@ -14,11 +14,12 @@ use Rattle.rules.specs.declared.Estimate.the-variants.{Lone}
 use Rattle.rules.specs.Replies.{f1, position, covers, inside, military, isPhantom}
 use Rattle.machine.specs.Places.{test, idle, anyIn, placeAt, placed}
 use Rattle.columns.specs.Columns.{Rows, Sized, none, placeIn, placesIn, placesOf, columnAt, idleColumn}
-use Rattle.columns.specs.Masks.{coversFrom, phantomFrom, CoverMask, PhantomMask, Masked, AllMasked}
+use Rattle.masks.specs.Masks.{coversFrom, phantomFrom, CoverMask, PhantomMask}
+use Rattle.columns.specs.Masks.{Masked, AllMasked}
 use Rattle.columns.specs.Post.{Dropped, Kept, anyOf, insideFrom, militaryFrom}
 use Rattle.plane.proofs.BitLaws.{zero-bit}
 use Rattle.columns.proofs.ColumnLaws.{open-there, idle-place}
-use Rattle.columns.proofs.MaskLaws.{not-covered}
+use Rattle.masks.proofs.MaskLaws.{not-covered}
 
 -- ---- places of a list
 

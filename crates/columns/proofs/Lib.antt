@@ -1,3 +1,2 @@
 pub mod ColumnLaws
-pub mod MaskLaws
 pub mod Holding

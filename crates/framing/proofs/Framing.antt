@@ -28,12 +28,14 @@ use Rattle.machine.specs.Places.{test, always, any3, anyIn, countIn, pushed, wi
 use Rattle.machine.proofs.Placed.{without-placed, count-placed}
 use Rattle.plane.specs.Words.{bit}
 use Rattle.columns.specs.Columns.{Rows, Sized, none, placeIn, placesIn, placesOf, machineAt, columnAt}
-use Rattle.columns.specs.Masks.{coversFrom, Masked, AllMasked, PutMasks, OpenMaskPost}
+use Rattle.masks.specs.Masks.{coversFrom}
+use Rattle.columns.specs.Masks.{Masked, AllMasked, PutMasks, OpenMaskPost}
 use Rattle.columns.specs.Post.{Put, PutPost, anyOf, insideFrom, militaryFrom}
-use Rattle.framing.specs.Post.{Purged, PurgePost, freeIn, insideIf, anyInside, OpenPost, FramePost, BracketPost}
+use Rattle.purging.specs.Post.{Purged, PurgePost}
+use Rattle.framing.specs.Post.{freeIn, insideIf, anyInside, OpenPost, FramePost, BracketPost}
 use Rattle.columns.proofs.ColumnLaws.{open-there, idle-place}
 use Rattle.columns.proofs.Holding.{covers-by-f1, any-covered-of, any-inside-of, any-military-of, masked-column, some, some-f1}
-use Rattle.framing.proofs.Purging.{bit-four, four-any}
+use Rattle.purging.proofs.Purging.{bit-four, four-any}
 
 -- ---- a column is busy where its F1 is that of a reply
 

@@ -1,2 +1,1 @@
-pub mod Purging
 pub mod Framing

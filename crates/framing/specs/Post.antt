@@ -1,7 +1,7 @@
 -- What a bracket makes of the columns, by the places that these stand for.
 use Prim.Native.Nat.{ℕ, _+_, _≤_, _<_}
 use mathlib.Core.Path.{_≡_}
-use mathlib.Core.Bool.{Bool, true, false, _&&_, _||_, cond}
+use mathlib.Core.Bool.{Bool, _&&_, _||_, cond}
 use mathlib.Core.List.{List}
 use lib.Dec.{leb, eqb}
 use lib.ListN.{length, getD}
@@ -11,31 +11,14 @@ use Rattle.rules.specs.declared.Bracket.{Bracket}
 use Rattle.rules.specs.declared.Bracket.the-variants.{Without, With}
 use Rattle.rules.specs.declared.Counts.{Counts}
 use Rattle.rules.specs.declared.Machine.{Machine}
-use Rattle.rules.specs.Lists.{reject, count}
-use Rattle.rules.specs.Replies.{f1, isPhantom}
+use Rattle.rules.specs.Replies.{f1}
 use Rattle.rules.specs.Machine.{openedBy}
 use Rattle.replies.specs.Sums.{wrapped}
 use Rattle.machine.specs.Places.{any3, pushed, placed, bracketOn, bracketIf}
 use Rattle.plane.specs.Words.{bit}
 use Rattle.columns.specs.Columns.{Rows, none, Sized, placesOf, machineAt}
 use Rattle.columns.specs.Masks.{AllMasked}
-use Rattle.columns.specs.Post.{DropPost, Kept, anyOf, insideFrom, militaryFrom}
-
--- the same, if c; r is the number of columns that went
-pub record DropIfPost (c : Bool) (x : Rows) (j : ℕ) (x′ : Rows) (r : ℕ) : Type 0 where
-  pub does : c ≡ true → DropPost x j x′
-  pub same : c ≡ false → x′ ≡ x
-  pub number : r ≡ cond c 1 0
-
--- a bracket at tick i of the block removes the phantoms
-pub record Purged (u : ℕ) (l : List Reply) (x′ : Rows) (n : ℕ) : Type 0 where
-  pub places : placesOf x′ ≡ placed (reject (isPhantom u) l)
-  pub number : n ≡ count (isPhantom u) l
-
-pub record PurgePost (x : Rows) (i : ℕ) (x′ : Rows) (n : ℕ) : Type 0 where
-  pub most : n ≤ 4
-  pub kept : Sized x → Kept x x′
-  pub result : Sized x → (t u : ℕ) → AllMasked t x → t + i ≡ u + 242 → (l : List Reply) → placesOf x ≡ placed l → length l ≤ 4 → Purged u l x′ n
+use Rattle.columns.specs.Post.{anyOf, insideFrom, militaryFrom}
 
 -- the first idle column, or the last
 abbrev pub freeIn : List ℕ → ℕ

@@ -28,7 +28,7 @@ use Rattle.machine.proofs.PlaceLaws.{covers-in, deal-by, deal-quiet}
 use Rattle.plane.specs.Words.{bit}
 use Rattle.plane.proofs.BitLaws.{bit-and, bit-or}
 use Rattle.columns.specs.Columns.{none, marksOf, wordAt, referenceAt, placeIn, placesIn}
-use Rattle.columns.specs.Masks.{coversFrom}
+use Rattle.masks.specs.Masks.{coversFrom}
 use Rattle.columns.specs.Post.{Wrote, WordPost, ReferencePost}
 use Rattle.hearing.specs.Post.{Heard, HearPost, HearIfPost, twiceIn, whichOf, Dealt, DealPost}
 use Rattle.columns.proofs.ColumnLaws.{level-back, put-both, open-there, idle-place}

@@ -12,7 +12,8 @@ use Rattle.rules.specs.Replies.{f1, position, verdict, takes, settle, average}
 use Rattle.replies.specs.Sums.{wrapped}
 use Rattle.machine.specs.Places.{dealt}
 use Rattle.columns.specs.Columns.{wordAt, referenceAt, placesIn}
-use Rattle.columns.specs.Masks.{coversFrom, AllMasked}
+use Rattle.masks.specs.Masks.{coversFrom}
+use Rattle.columns.specs.Masks.{AllMasked}
 
 -- the edge e settles a position of column j, which covers it, or none
 pub record Heard (f w : List ℕ) (v : List Float) (j : ℕ) (e : Pulse) (own other : Bool) (w′ : List ℕ) (v′ : List Float) : Type 0 where

@@ -8,7 +8,7 @@ ghost use Rattle.rules.specs.Replies.{position as position′, isPosition, bitO
 ghost use Rattle.plane.specs.Words.{bit};
 ghost use Rattle.rules.specs.Settings.{standard};
 ghost use Rattle.machine.specs.Places.{any3 as any3′};
-ghost use Rattle.columns.specs.Masks.{coversFrom};
+ghost use Rattle.masks.specs.Masks.{coversFrom};
 ghost use Rattle.hearing.specs.Post.{HearPost, HearIfPost, DealPost, twiceIn, whichOf};
 use columns::rows::put_word;
 use columns::rows::take_in;

@@ -10,7 +10,8 @@ use lib.Seq.{getD-set-same, getD-set-other}
 use lib.Ieee.{Float}
 use Rattle.rules.specs.declared.Places.{Places}
 use Rattle.columns.specs.Columns.{placesIn, columnAt}
-use Rattle.columns.specs.Masks.{CoverMask, PhantomMask, Masked, PutMasks, MaskPost, OpenMaskPost}
+use Rattle.masks.specs.Masks.{CoverMask, PhantomMask}
+use Rattle.columns.specs.Masks.{Masked, PutMasks, MaskPost, OpenMaskPost}
 use Rattle.columns.specs.Post.{PutPost}
 use Rattle.lanes.specs.Post.{LoadPost, MasksPost}
 use Rattle.columns.proofs.Holding.{masked-column}

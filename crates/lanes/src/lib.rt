@@ -2,13 +2,13 @@
 ghost use Prim.Native.Nat.{_<_};
 ghost use Rattle.columns.specs.Masks.{MaskPost, OpenMaskPost};
 ghost use Rattle.lanes.specs.Post.{LoadPost, MasksPost, HandPost};
-use columns::masks::cover_mask;
-use columns::masks::open_cover;
-use columns::masks::open_phantom;
-use columns::masks::phantom_mask;
 use columns::rows::drop_column;
 use columns::rows::place_at;
 use columns::rows::put_place;
+use masks::cover_mask;
+use masks::open_cover;
+use masks::open_phantom;
+use masks::phantom_mask;
 use records::hand_one;
 use replies::ended;
 use rules::Places;

@@ -1,5 +1,1 @@
-pub mod Visiting
-pub mod Working
-pub mod BlockLaws
-pub mod Staying
 pub mod Streaming

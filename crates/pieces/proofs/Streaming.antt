@@ -30,14 +30,15 @@ use Rattle.machine.specs.Places.{machineOf}
 use Rattle.rules.specs.declared.Places.{Places}
 use Rattle.columns.specs.Columns.{Rows, Sized, placesOf}
 use Rattle.lanes.specs.Post.{LoadPost}
-use Rattle.pieces.specs.declared.blocks.Run.{Run}
-use Rattle.pieces.specs.declared.blocks.Stand.{Stand}
+use Rattle.blocks.specs.declared.Run.{Run}
+use Rattle.blocks.specs.declared.Stand.{Stand}
 use Rattle.front.specs.Words.{frontOf}
 use Rattle.front.specs.Post.{Low, Reads, valueOf}
-use Rattle.pieces.specs.Steps.{stateAt, Bounded, Fed, runOf, FedColumns, BlockPost, upTo, Enters, Begins, BlocksPost, ColumnsPost, RunPost, FeedPost, Ends, DrainPost}
+use Rattle.blocks.specs.Steps.{stateAt, Bounded, Fed, runOf, FedColumns, BlockPost}
+use Rattle.pieces.specs.Feeding.{upTo, Enters, Begins, BlocksPost, ColumnsPost, RunPost, FeedPost, Ends, DrainPost}
 use Rattle.rules.proofs.Answers.{standard-allowed, join-nothing}
 use Rattle.front.proofs.Spans.{value-law}
-use Rattle.pieces.proofs.Working.{over-nil, loaded}
+use Rattle.blocks.proofs.Working.{over-nil, loaded}
 
 abbrev nothing : Trace
 nothing = record { flags = []; values = [] }

@@ -1,2 +1,0 @@
--- What the functions of a piece answer.
-pub mod Steps

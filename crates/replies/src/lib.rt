@@ -1,6 +1,6 @@
 // One reply: tests by ticks, what it agrees with, and what an edge settles. Numbers in, numbers out.
 ghost use mathlib.Core.Path.{_≡_};
-ghost use Prim.Native.Nat.{ℕ, _^_, _≤_, _<_};
+ghost use Prim.Native.Nat.{ℕ, _^_, _<_};
 ghost use mathlib.Core.Bool.{Bool, cond};
 ghost use Rattle.replies.specs.Sums.{wrapped};
 ghost use Rattle.rules.specs.declared.Reply.{Reply};

@@ -25,11 +25,12 @@ use Rattle.sweep.specs.declared.Answer.the-variants.{Accepted, Refused}
 use Rattle.sweep.specs.declared.Processor.{Processor}
 use Rattle.sweep.specs.declared.Taken.{Taken}
 use Rattle.sweep.specs.declared.Closed.{Closed}
-use Rattle.pieces.specs.declared.blocks.Run.{Run}
+use Rattle.blocks.specs.declared.Run.{Run}
 use Rattle.front.specs.Words.{frontOf, recentOf}
 use Rattle.sweep.specs.State.{Sweep, none, running, idleProcessor, runningProcessor, processorOf, Within, Made}
 use Rattle.sweep.specs.Post.{takeVerdict, takeAs, takeBufferAs, TakePost, closeVerdict, closeAs, closeBufferAs, noTotals, ClosePost, totalsFrom}
-use Rattle.pieces.specs.Steps.{stateAt, Fed, FeedPost, DrainPost}
+use Rattle.blocks.specs.Steps.{stateAt, Fed}
+use Rattle.pieces.specs.Feeding.{FeedPost, DrainPost}
 use Rattle.front.specs.Post.{KeepPost}
 use Rattle.rules.proofs.Answers.{standard-allowed}
 use Rattle.rules.specs.Edges.{edgeAt}

@@ -23,13 +23,14 @@ use Rattle.packing.specs.Flags.{Bare}
 use Rattle.plane.proofs.BitLaws.{zero-bit}
 use Rattle.sweep.specs.declared.Processor.{Processor}
 use Rattle.front.specs.declared.words.Front.{Front}
-use Rattle.pieces.specs.declared.blocks.Stand.{Stand}
+use Rattle.blocks.specs.declared.Stand.{Stand}
 use Rattle.sweep.specs.State.{running, runningProcessor, processorOf, Made}
 use Rattle.front.specs.Words.{recentOf}
 use Rattle.front.specs.Post.{still}
-use Rattle.pieces.specs.Steps.{Waits, Stays, runOf, FedColumns, BlocksPost}
+use Rattle.blocks.specs.Steps.{Waits, Stays, runOf, FedColumns}
+use Rattle.pieces.specs.Feeding.{BlocksPost}
 use Rattle.sweep.specs.Post.{Rests, Standing, QuietPost}
-use Rattle.pieces.proofs.Staying.{stays-law}
+use Rattle.blocks.proofs.Staying.{stays-law}
 use Rattle.pieces.proofs.Streaming.{Feeding, feed-start, feed-next, feed-end, enters-piece}
 use Rattle.sweep.proofs.Operations.{mode-of, azimuth-of, taken-of, front-of, recent-of, machine-of}
 

@@ -19,14 +19,15 @@ use Rattle.columns.specs.Columns.{Rows, Sized, machineAt}
 use Rattle.sweep.specs.declared.Answer.{Answer}
 use Rattle.sweep.specs.declared.Answer.the-variants.{Accepted, Refused}
 use Rattle.sweep.specs.declared.Processor.{Processor}
-use Rattle.pieces.specs.declared.blocks.Stand.{Stand}
+use Rattle.blocks.specs.declared.Stand.{Stand}
 use Rattle.sweep.specs.State.{running, runningProcessor, processorOf, Made}
 use Rattle.sweep.specs.Post.{takeVerdict, QuietPost}
-use Rattle.pieces.specs.Steps.{Begins, runOf, FedColumns, ColumnsPost}
+use Rattle.blocks.specs.Steps.{runOf, FedColumns}
+use Rattle.pieces.specs.Feeding.{Begins, ColumnsPost}
 use Rattle.front.specs.Post.{KeepPost}
 use Rattle.rules.proofs.Answers.{took}
 use Rattle.sweep.proofs.Operations.{mode-of, azimuth-of, taken-of, front-of, recent-of, machine-of}
-use Rattle.pieces.proofs.Working.{over-nil}
+use Rattle.blocks.proofs.Working.{over-nil}
 use Rattle.whole.specs.declared.Reached.{Reached}
 
 unfoldable pub isRefused : Answer → Bool

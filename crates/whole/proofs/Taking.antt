@@ -31,14 +31,14 @@ use Rattle.sweep.specs.declared.Answer.{Answer}
 use Rattle.sweep.specs.declared.Answer.the-variants.{Accepted, Refused}
 use Rattle.sweep.specs.declared.Processor.{Processor}
 use Rattle.sweep.specs.declared.Closed.{Closed}
-use Rattle.pieces.specs.declared.blocks.Stand.{Stand}
+use Rattle.blocks.specs.declared.Stand.{Stand}
 use Rattle.sweep.specs.State.{Sweep, none, running, runningProcessor, processorOf, Within, Made}
 use Rattle.sweep.specs.Post.{takeVerdict, closeVerdict, closeAs, closeBufferAs, QuietPost, ClosePost}
-use Rattle.pieces.specs.Steps.{ColumnsPost}
+use Rattle.pieces.specs.Feeding.{ColumnsPost}
 use Rattle.front.specs.Post.{KeepPost}
 use Rattle.rules.proofs.Answers.{standard-allowed}
 use Rattle.sweep.proofs.Operations.{mode-of, azimuth-of, front-of, recent-of, machine-of}
-use Rattle.pieces.proofs.Working.{loaded}
+use Rattle.blocks.proofs.Working.{loaded}
 use Rattle.whole.specs.declared.Reached.{Reached}
 use Rattle.whole.specs.Post.{wholeRoom, Taken, Takes, TakeAllPost, CloseAtPost}
 use Rattle.whole.proofs.Pieces.{isRefused, countIn, over-rest, mid-is, post-is, processorAt, Reaches, TakesAt, q, piece-fed, piece-quiet}

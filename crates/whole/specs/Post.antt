@@ -15,9 +15,9 @@ use Rattle.rules.specs.Records.{records, replies, totals}
 use Rattle.rules.specs.Calls.{Answer as Verdict, accepted, refused, firstOf, takeRoom, closeRoom, handed, fresh, rest}
 use Rattle.frames.specs.Writing.{totalsBytes}
 use Rattle.sweep.specs.declared.Processor.{Processor}
-use Rattle.pieces.specs.declared.blocks.Run.{Run}
+use Rattle.blocks.specs.declared.Run.{Run}
 use Rattle.sweep.specs.State.{running, runningProcessor, Made}
-use Rattle.pieces.specs.Steps.{Begins}
+use Rattle.pieces.specs.Feeding.{Begins}
 use Rattle.whole.specs.declared.Reached.{Reached}
 
 -- room for what the pieces hand out, each into the rest of the buffer, and for what is left at the close

@@ -6,7 +6,7 @@ use Rattle.framing.proofs.any_covered.Statement.{statement}
 use Rattle.framing.proofs.any_covered.Tie as tie
 use Rattle.framing.proofs.any_covered.Reads as reads
 use Rattle.framing.proofs.any_covered.Lts as lts
-use Rattle.columns.proofs.masks.covered.Reads as covered-reads
+use Rattle.masks.proofs.covered.Reads as covered-reads
 use Rattle.machine.proofs.any4.Reads as any4-reads
 
 -- src/steps.rt:200:21

@@ -9,7 +9,7 @@ use Rattle.framing.proofs.frame.Lts as lts
 use Rattle.plane.proofs.marked.Reads as marked-reads
 use Rattle.framing.proofs.is_clear.Reads as is-clear-reads
 use Rattle.framing.proofs.open_reply.Reads as open-reply-reads
-use Rattle.framing.proofs.purge.Reads as purge-reads
+use Rattle.purging.proofs.purge.Reads as purge-reads
 use Rattle.machine.proofs.tallied.Reads as tallied-reads
 
 -- src/steps.rt:278:9

@@ -4,8 +4,8 @@ use Rattle.lanes.proofs.put_masks.Statement.{statement}
 use Rattle.lanes.proofs.put_masks.Tie as tie
 use Rattle.lanes.proofs.put_masks.Reads as reads
 use Rattle.lanes.proofs.put_masks.Lts as lts
-use Rattle.columns.proofs.masks.cover_mask.Reads as cover-mask-reads
-use Rattle.columns.proofs.masks.phantom_mask.Reads as phantom-mask-reads
+use Rattle.masks.proofs.cover_mask.Reads as cover-mask-reads
+use Rattle.masks.proofs.phantom_mask.Reads as phantom-mask-reads
 
 -- src/steps.rt:50:13
 mul-q : tie.Need-mul-q

@@ -4,8 +4,8 @@ use Rattle.lanes.proofs.put_open_masks.Statement.{statement}
 use Rattle.lanes.proofs.put_open_masks.Tie as tie
 use Rattle.lanes.proofs.put_open_masks.Reads as reads
 use Rattle.lanes.proofs.put_open_masks.Lts as lts
-use Rattle.columns.proofs.masks.open_cover.Reads as open-cover-reads
-use Rattle.columns.proofs.masks.open_phantom.Reads as open-phantom-reads
+use Rattle.masks.proofs.open_cover.Reads as open-cover-reads
+use Rattle.masks.proofs.open_phantom.Reads as open-phantom-reads
 
 -- src/lib.rt:36:9
 open-cover-requires : tie.Need-open-cover-requires

@@ -8,7 +8,7 @@ use Rattle.sweep.proofs.close.Reads as reads
 use Rattle.sweep.proofs.close.Lts as lts
 use Rattle.sweep.proofs.idle.Reads as idle-reads
 use Rattle.sweep.proofs.no_close.Reads as no-close-reads
-use Rattle.pieces.proofs.feeding.drain.Reads as drain-reads
+use Rattle.pieces.proofs.drain.Reads as drain-reads
 use Rattle.sweep.proofs.totals_of.Reads as totals-of-reads
 
 -- src/lib.rt:227:9

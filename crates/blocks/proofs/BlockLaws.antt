@@ -1,0 +1,120 @@
+-- A block: the words go on, the machine works what became known, and the records of what is due stand behind those before.
+use Prim.Native.Nat.{ℕ, _+_, _-_}
+use native.Mathlib.Omega.{arith}
+use mathlib.Core.Path.{_≡_, sym, ap, _∙_, subst}
+use mathlib.Core.List.{List, _++_, append-assoc}
+use lib.ListN.{length, length-append}
+use Rattle.rules.specs.declared.Reply.{Reply}
+use Rattle.rules.specs.declared.Counts.{Counts}
+use Rattle.rules.specs.Settings.{standard}
+use Rattle.rules.specs.Samples.{Trace, _⧺_}
+use Rattle.rules.specs.Machine.{State}
+use Rattle.rules.specs.Records.{records}
+use Rattle.rules.specs.Calls.{fresh}
+use Rattle.rules.proofs.Joining.{assoc, fresh-join, handed-fresh, handed-done, after-known, records-append, records-length}
+use Rattle.machine.specs.Places.{machineOf}
+use Rattle.columns.specs.Columns.{Rows, Sized, machineAt}
+use Rattle.rules.specs.Buffers.{over-at}
+use Rattle.rules.proofs.Buffers.{over-at-more}
+use Rattle.packing.specs.declared.Planes.{Planes}
+use Rattle.front.specs.declared.words.Front.{Front}
+use Rattle.front.specs.declared.span.Span.{Span}
+use Rattle.blocks.specs.declared.Run.{Run}
+use Rattle.blocks.specs.declared.Stand.{Stand}
+use Rattle.front.specs.Words.{padded, frontOf}
+use Rattle.front.specs.Post.{Low, AdvancePost, Spanned, SpanPost, Reads}
+use Rattle.blocks.specs.Steps.{stateAt, Bounded, Shows, Retired, Gives, WorkPost, Fed, Next, BlockPost, runOf}
+use Rattle.rules.proofs.Answers.{standard-allowed}
+use Rattle.blocks.proofs.Working.{Works}
+
+-- the replies that the block Q adds to those done
+block-done : (R Q : Trace) → length (R .flags) ≡ length (R .values)
+    → stateAt (R ⧺ Q) (length (R .flags ++ Q .flags) - 178) .done ≡ stateAt (R ⧺ Q) (length (R .flags) - 178) .done ++ fresh standard R Q
+block-done R Q a =
+    sym (handed-done standard standard-allowed (R ⧺ Q))
+    ∙ handed-fresh standard standard-allowed R Q a
+    ∙ ap {B = List Reply} (λ z. z ++ fresh standard R Q)
+    (handed-done standard standard-allowed R ∙ ap (λ (s : State). s .done) (sym (after-known standard standard-allowed R Q a)))
+
+module _ (E : Type 0) (o : Run) (x : Planes) (r t : ℕ) (recent : List ℕ) (base : ℕ) (values : List ℕ) (b : List ℕ) (f : Front) (s : Span) (v : Retired) (b′ : List ℕ)
+    (ad : AdvancePost (o .front) x r f) (sp : SpanPost f s) (wk : Works E (o .machine) s r t recent base values (o .at) b v b′) where
+  module _ (T P Q : Trace) (b₀ : List ℕ) (fed : Fed T P b₀ o b) (lr : length (Q .flags) ≡ r) (low : Low (Q .flags) x) (nx : Next T P Q t recent base values b₀ b) where
+    alike-R : length (T .flags ++ P .flags) ≡ length (T .values ++ P .values)
+    alike-R = omega (arith, nx .alike, nx .alike-piece, length-append (T .flags) (P .flags), length-append (T .values) (P .values))
+
+    ticks-R : length (T .flags ++ P .flags) + r ≡ t
+    ticks-R = omega (arith, nx .ticks, lr, length-append (T .flags) (P .flags))
+
+    ticks-RQ : length ((T .flags ++ P .flags) ++ Q .flags) ≡ t
+    ticks-RQ = omega (arith, ticks-R, lr, length-append (T .flags ++ P .flags) (Q .flags))
+
+    front-RQ : f ≡ frontOf ((T .flags ++ P .flags) ++ Q .flags)
+    front-RQ = ad .result (T .flags ++ P .flags) (Q .flags) (fed .front) lr low
+
+    shows : Shows ((T ⧺ P) ⧺ Q) t s recent base values
+    shows =
+        let e = assoc T P Q in
+        record {
+          bounded = subst Bounded e (nx .bounded);
+          ticks = ticks-RQ;
+          spanned = subst (λ (n : ℕ). Spanned (padded ((T .flags ++ P .flags) ++ Q .flags)) n s) ticks-RQ (sp .result ((T .flags ++ P .flags) ++ Q .flags) front-RQ);
+          reads = subst (λ (Z : Trace). Reads Z t recent base values) e (nx .reads);
+        }
+
+    -- both pieces' replies
+    joined : fresh standard T (P ⧺ Q) ≡ fresh standard T P ++ fresh standard (T ⧺ P) Q
+    joined = fresh-join standard standard-allowed T P Q (nx .alike) (nx .alike-piece)
+
+    lengths : length (fresh standard T (P ⧺ Q)) ≡ length (fresh standard T P) + length (fresh standard (T ⧺ P) Q)
+    lengths = ap length joined ∙ length-append (fresh standard T P) (fresh standard (T ⧺ P) Q)
+
+    worked : Gives (fresh standard (T ⧺ P) Q) (stateAt ((T ⧺ P) ⧺ Q) (t - 178)) (o .at) b v b′ × E
+    worked =
+        let z : t - r - 178 ≡ length (T .flags ++ P .flags) - 178 = omega (arith, ticks-R) in
+        wk .result ((T ⧺ P) ⧺ Q) shows (omega (arith, ticks-R))
+        (fed .machine ∙ ap machineOf (sym (after-known standard standard-allowed (T ⧺ P) Q alike-R)) ∙ ap (λ (c : ℕ). machineOf (stateAt ((T ⧺ P) ⧺ Q) c)) (sym z))
+        (fresh standard (T ⧺ P) Q)
+        (ap (λ (c : ℕ). stateAt ((T ⧺ P) ⧺ Q) (c - 178) .done) (sym ticks-RQ)
+        ∙ block-done (T ⧺ P) Q alike-R
+        ∙ ap (λ (c : ℕ). stateAt ((T ⧺ P) ⧺ Q) c .done ++ fresh standard (T ⧺ P) Q) (sym z))
+        (omega (arith, fed .place, lengths, nx .room, nx .same))
+
+    gives : Gives (fresh standard (T ⧺ P) Q) (stateAt ((T ⧺ P) ⧺ Q) (t - 178)) (o .at) b v b′
+    gives = worked .0
+
+    pub fed-known : E
+    fed-known = worked .1
+
+    pub fed-next : Fed T (P ⧺ Q) b₀ (record { front = f; machine = v .machine; at = v .at }) b′
+    fed-next =
+        let e = append-assoc (T .flags) (P .flags) (Q .flags) in
+        record {
+          front = front-RQ ∙ ap frontOf e;
+          machine =
+              gives .machine
+              ∙ ap (λ (c : ℕ). machineOf (stateAt ((T ⧺ P) ⧺ Q) (c - 178))) (sym ticks-RQ ∙ ap length e)
+              ∙ ap (λ (Z : Trace). machineOf (stateAt Z (length (T .flags ++ (P .flags ++ Q .flags)) - 178))) (sym (assoc T P Q));
+          place = omega (arith, gives .place, fed .place, lengths);
+          buffer =
+              gives .buffer
+              ∙ ap {B = List ℕ} (λ z. over-at (records (fresh standard (T ⧺ P) Q)) (o .at) z) (fed .buffer)
+              ∙ over-at-more (records (fresh standard T P)) (records (fresh standard (T ⧺ P) Q)) b₀ 0 (o .at) (omega (arith, fed .place, records-length (fresh standard T P))) (omega (arith, fed .place, lengths, nx .room))
+              ∙ ap (λ (z : List ℕ). over-at z 0 b₀) (sym (records-append (fresh standard T P) (fresh standard (T ⧺ P) Q)) ∙ ap records (sym joined));
+        }
+
+-- the same with the places as columns
+pub block-law : (x : Rows) (o : Stand) (p : Planes) (r t : ℕ) (recent : List ℕ) (base : ℕ) (values : List ℕ) (b : List ℕ) (f : Front) (s : Span) (x′ : Rows) (c′ : Counts) (e : ℕ) (b′ : List ℕ)
+    → AdvancePost (o .front) p r f → SpanPost f s → WorkPost x (o .counts) s r t recent base values (o .at) b x′ c′ e b′
+    → BlockPost x o p r t recent base values b x′ (record { front = f; counts = c′; at = e }) b′
+block-law x o p r t recent base values b f s x′ c′ e b′ ad sp wk =
+    record {
+      same = wk .keeps .same;
+      result = λ T P Q b₀ fed lr low nx.
+          let v : Retired = record { machine = machineAt x′ c′; at = e } in
+          let w : Works (Sized x′) (machineAt x (o .counts)) s r t recent base values (o .at) b v b′ =
+          record { keeps = wk .keeps; result = λ T sh le is l d room. let y = wk .result (fed .sized) T sh le is l d room in (y .gives, y .sized) } in
+          record {
+            fed = fed-next (Sized x′) (runOf x o) p r t recent base values b f s v b′ ad sp w T P Q b₀ (fed .fed) lr low nx;
+            sized = fed-known (Sized x′) (runOf x o) p r t recent base values b f s v b′ ad sp w T P Q b₀ (fed .fed) lr low nx;
+          };
+    }

@@ -1,0 +1,4 @@
+pub mod Visiting
+pub mod Working
+pub mod BlockLaws
+pub mod Staying

@@ -1,0 +1,189 @@
+-- One visit of the columns: what is over is handed out, then the edge is taken. The numbers stay small enough for sums of 16 bits.
+use Prim.Native.Nat.{ℕ, suc, _+_, _-_, _*_, _≤_, _<_}
+use native.Mathlib.Omega.{arith}
+use mathlib.Core.Path.{_≡_, refl, sym, ap, _∙_, subst}
+use mathlib.Core.Bool.{Bool, true, false, _||_, cond}
+use mathlib.Core.List.{List}
+use lib.ListN.{length, getD}
+use lib.Ieee.{Float}
+use Rattle.rules.specs.declared.Counts.{Counts}
+use Rattle.rules.specs.declared.Pulse.{Pulse}
+use Rattle.rules.specs.declared.Bracket.{Bracket}
+use Rattle.rules.specs.declared.Bracket.the-variants.{Without, With}
+use Rattle.rules.specs.Settings.{standard}
+use Rattle.rules.specs.Lists.{filter, reject}
+use Rattle.rules.specs.Samples.{Trace}
+use Rattle.rules.specs.Edges.{stands, edgeAt}
+use Rattle.rules.specs.Ranges.{Ranged}
+use Rattle.rules.specs.Replies.{ended}
+use Rattle.rules.specs.Machine.{State, retired, bracketAt}
+use Rattle.rules.proofs.Truth.{or-left, or-right}
+use Rattle.rules.proofs.ListLaws.{all-reject, reject-short}
+use Rattle.rules.proofs.Order.{ordered}
+use Rattle.rules.proofs.Outcomes.{after-balanced, after-found}
+use Rattle.rules.proofs.Printed.{brackets-most}
+use Rattle.rules.proofs.Settled.{edge-timed}
+use Rattle.rules.proofs.Skipping.{visit}
+use Rattle.rules.proofs.EachReply.{value-byte, framing, framed-byte, ranged-each}
+use Rattle.replies.specs.Sums.{wrapped}
+use Rattle.machine.specs.Places.{any3, dealt, bracketIf, stepOn, placed, machineOf}
+use Rattle.machine.proofs.Steps.{balanced-small, edge-post}
+use Rattle.machine.specs.Post.{Small, f2Value, Fits, EdgePost}
+use Rattle.records.specs.Post.{Queue}
+use Rattle.records.proofs.Handing.{ordered-queue}
+use Rattle.plane.specs.Words.{bit}
+use Rattle.columns.specs.Columns.{Rows, Sized, placesOf, machineAt}
+use Rattle.columns.specs.Masks.{AllMasked}
+use Rattle.lanes.specs.Post.{HandPost}
+use Rattle.framing.specs.Post.{f2Tick, BracketPost}
+use Rattle.hearing.specs.Post.{DealPost}
+use Rattle.columns.proofs.Holding.{masked-rows}
+use Rattle.framing.proofs.Framing.{bracket-none as no-bracket}
+use Rattle.hearing.proofs.Dealing.{deal-none}
+use Rattle.front.specs.declared.span.Span.{Span}
+use Rattle.blocks.specs.Steps.{stateAt, Bounded, Shows, Went, VisitPost}
+use Rattle.front.specs.Post.{valueOf, pulseIn, bracketIn}
+use Rattle.rules.proofs.Answers.{standard-allowed}
+use Rattle.front.proofs.Spans.{span-pulse, span-bracket, bracket-none}
+
+-- ---- the state after some ticks, as the machine's functions want it
+
+pub queue : (T : Trace) (c : ℕ) → Queue (stateAt T c)
+queue T c = ordered-queue c (stateAt T c) (ordered standard (edgeAt standard T) (edge-timed standard T) c)
+
+small : (T : Trace) (c : ℕ) → c < 32768 → Small (stateAt T c .counts)
+small T c h =
+    let E = edgeAt standard T in
+    balanced-small (stateAt T c) (after-balanced standard E c) (omega (arith, after-found standard E c, brackets-most standard E c))
+
+module _ (T : Trace) (bd : Bounded T) (c u : ℕ) (le : c ≤ u) (st : stands (edgeAt standard T u) ≡ true) where
+  second-byte : f2Value (bracketAt standard (edgeAt standard T) u) ≤ 255
+  second-byte = go (bracketAt standard (edgeAt standard T) u) refl
+    where
+      go : (b : Bracket) → bracketAt standard (edgeAt standard T) u ≡ b → f2Value b ≤ 255
+      go Without e = omega arith
+      go (With f) e = framed-byte standard standard-allowed T (bd .bytes) u f (framing standard (edgeAt standard T) u f e)
+
+  fits : Fits (edgeAt standard T u .pulse) (bracketAt standard (edgeAt standard T) u) (retired u (stateAt T c))
+  unfolding retired
+  fits =
+      let s = stateAt T c in
+      record {
+        four = omega (arith, queue T c .four, reject-short (ended u) (s .live));
+        ranged = all-reject Ranged (ended u) (s .live) (ranged-each standard standard-allowed T (bd .bytes) c .live);
+        counts = small T c (omega (arith, bd .edges u st));
+        value = value-byte standard standard-allowed T (bd .bytes) u;
+        second = second-byte;
+      }
+
+-- the F2 of a bracket stands at most 169 ticks behind it
+f2-low : (s : Span) (i u : ℕ) (recent : List ℕ) (base : ℕ) (values : List ℕ) → u < 65536 → f2Tick (bracketIn s i u recent base values) < 70000
+unfolding bracketIn
+f2-low s i u recent base values h = go (bit (s .at168) i) (bit (s .at167) i) (bit (s .at169) i)
+  where
+    p168 : Pulse
+    p168 = pulseIn (s .main168) i (u + 168) (valueOf recent base values (u + 169))
+
+    p167 : Pulse
+    p167 = pulseIn (s .main167) i (u + 167) (valueOf recent base values (u + 168))
+
+    p169 : Pulse
+    p169 = pulseIn (s .main169) i (u + 169) (valueOf recent base values (u + 170))
+
+    go : (a b c : Bool) → f2Tick (cond a (With p168) (cond b (With p167) (cond c (With p169) Without))) < 70000
+    go true b c = omega arith
+    go false true c = omega arith
+    go false false true = omega arith
+    go false false false = omega arith
+
+-- the columns of a state
+live-places : (x : Rows) (c : Counts) (S : State) → machineAt x c ≡ machineOf S → placesOf x ≡ placed (S .live)
+live-places x c S e = λ i. e i .places
+
+module _ (x : Rows) (c : Counts) (s : Span) (i t : ℕ) (recent : List ℕ) (base : ℕ) (values : List ℕ) (at : ℕ) (b : List ℕ) (x₁ : Rows) (r : ℕ) (b′ : List ℕ) (x₂ : Rows) (c′ : Counts)
+    (w′ : List ℕ) (v′ : List Float) where
+  abbrev pub left : Rows
+  left = record { f1 = x₂ .f1; marks = x₂ .marks; row = w′; level = v′; on = x₂ .on }
+
+  -- what the code does at tick u
+  pub record Visited (u : ℕ) : Type 0 where
+    pub retires : HandPost x u at b x₁ r b′
+    pub brackets : BracketPost x₁ c (pulseIn (s .main) i u (valueOf recent base values (u + 1))) (bracketIn s i u recent base values) i t x₂ c′
+    pub deals : DealPost (x₂ .f1) (x₂ .row) (x₂ .level) (x₂ .on) (pulseIn (s .main) i u (valueOf recent base values (u + 1))) i w′ v′
+
+  visited : (u : ℕ) → i < 64 → u < 65536 → t < 65000 → Visited u → Sized x → AllMasked t x → (T : Trace) → Shows T t s recent base values → t + i ≡ u + 242
+      → stands (edgeAt standard T u) ≡ true → (k : ℕ) → k ≤ u → ((j : ℕ) → k ≤ j → j < u → stands (edgeAt standard T j) ≡ false) → machineAt x c ≡ machineOf (stateAt T k)
+      → at + 18 * length (filter (ended u) (stateAt T k .live)) ≤ length b → Went (filter (ended u) (stateAt T k .live)) (stateAt T (suc u)) t at b left c′ r b′
+  unfolding stepOn retired
+  visited u li lu lt h sized masked T sh z st k le none′ is room =
+      let E = edgeAt standard T in
+      let S = stateAt T k in
+      let q = queue T k in
+      let P = pulseIn (s .main) i u (valueOf recent base values (u + 1)) in
+      let B = bracketIn s i u recent base values in
+      let g = h .retires .result sized (omega arith) (S .live) (live-places x c S is) (q .four) (q .order) room in
+      let kept = h .retires .kept sized in
+      let m₁ = kept .masked t masked in
+      let l₁ = reject (ended u) (S .live) in
+      let four₁ : length l₁ ≤ 4 = omega (arith, q .four, reject-short (ended u) (S .live)) in
+      let y = h .brackets .result (kept .sized) m₁ z (f2-low s i u recent base values lu) l₁ (g .places) four₁ in
+      let d = h .deals .result (x₂ .marks) t (y .sized .row) (y .sized .level) (y .masked) z in
+      let n = bracketIf wrapped P B (machineAt x₁ c) in
+      let step : machineAt left c′ ≡ stepOn wrapped standard P B (machineAt x₁ c) =
+      λ a. record { places = (d .places ∙ (λ f. dealt wrapped standard P (y .machine f .places))) a; counts = y .machine a .counts } in
+      let is₁ : machineAt x₁ c ≡ machineOf (retired u S) = λ a. record { places = g .places a; counts = is a .counts } in
+      let p = span-pulse T s t (sh .spanned) recent base values (sh .reads) i u li z in
+      let o = span-bracket T s t (sh .spanned) recent base values (sh .reads) i u li z in
+      let post : EdgePost (machineAt x₁ c) (E u .pulse) (bracketAt standard E u) (machineAt left c′) =
+      edge-post (machineAt x₁ c) (E u .pulse) (bracketAt standard E u) (machineAt left c′) (step ∙ (λ a. stepOn wrapped standard (p a) (o a) (machineAt x₁ c))) in
+      record {
+        gives =
+            record {
+              machine = post .result (retired u S) is₁ (fits T (sh .bounded) k u le st) ∙ ap machineOf (visit standard E (edge-timed standard T) k u le none′ st);
+              place = g .place;
+              buffer = g .buffer;
+            };
+        sized =
+            record { f1 = y .sized .f1; marks = y .sized .marks; row = d .row-size; level = d .level-size; on = y .sized .on };
+        masked = masked-rows (x₂ .f1) (x₂ .marks) (x₂ .row) (x₂ .level) w′ v′ (x₂ .on) t lt (y .masked);
+      }
+
+  -- a visit, where the code's tick is that of the span
+  pub visit-law : (u : ℕ) → i < 64 → u < 65536 → t < 65000 → ((v : ℕ) → t + i ≡ v + 242 → u ≡ v) → Visited u → VisitPost x c s i t recent base values at b left c′ r b′
+  visit-law u li lu lt tick h =
+      record {
+        keeps = record { same = h .retires .same; inside = h .retires .inside };
+        result = λ sized masked T sh v z st k le none′ is room.
+            visited v li (omega (arith, tick v z)) lt (subst Visited (tick v z) h) sized masked T sh z st k le none′ is room;
+      }
+
+-- the edge and the bracket as the code has them
+pub bracket-as : (x : Rows) (c : Counts) (e : Pulse) (b : Bracket) (i t : ℕ) (x′ : Rows) (c′ : Counts) (s : Span) (u v : ℕ) (recent : List ℕ) (base : ℕ) (values : List ℕ)
+    → BracketPost x c e b i t x′ c′ → e ≡ pulseIn (s .main) i u v → v ≡ valueOf recent base values (u + 1) → b ≡ bracketIn s i u recent base values
+    → BracketPost x c (pulseIn (s .main) i u (valueOf recent base values (u + 1))) (bracketIn s i u recent base values) i t x′ c′
+bracket-as x c e b i t x′ c′ s u v recent base values h p q k =
+    subst (λ (B : Bracket). BracketPost x c (pulseIn (s .main) i u (valueOf recent base values (u + 1))) B i t x′ c′) k
+    (subst (λ (P : Pulse). BracketPost x c P b i t x′ c′) (p ∙ ap (pulseIn (s .main) i u) q) h)
+
+pub deal-as : (f w : List ℕ) (v : List Float) (on : List ℕ) (e : Pulse) (i : ℕ) (w′ : List ℕ) (v′ : List Float) (s : Span) (u y : ℕ) (recent : List ℕ) (base : ℕ) (values : List ℕ)
+    → DealPost f w v on e i w′ v′ → e ≡ pulseIn (s .main) i u y → y ≡ valueOf recent base values (u + 1)
+    → DealPost f w v on (pulseIn (s .main) i u (valueOf recent base values (u + 1))) i w′ v′
+deal-as f w v on e i w′ v′ s u y recent base values h p q = subst (λ (P : Pulse). DealPost f w v on P i w′ v′) (p ∙ ap (pulseIn (s .main) i u) q) h
+
+-- an edge without a bracket that no column covers
+pub visit-skip : (x : Rows) (c : Counts) (s : Span) (i t : ℕ) (recent : List ℕ) (base : ℕ) (values : List ℕ) (at : ℕ) (b : List ℕ) (x₁ : Rows) (r : ℕ) (b′ : List ℕ) (u : ℕ) → i < 64
+    → u < 65536 → t < 65000 → ((v : ℕ) → t + i ≡ v + 242 → u ≡ v) → HandPost x u at b x₁ r b′ → (f o : Bool) → f ≡ (bit (s .at168) i || (bit (s .at167) i || bit (s .at169) i))
+    → o ≡ (bit (getD (x₁ .on) 0 0) i || any3 (bit (getD (x₁ .on) 1 0) i) (bit (getD (x₁ .on) 2 0) i) (bit (getD (x₁ .on) 3 0) i)) → (f || o) ≡ false
+    → VisitPost x c s i t recent base values at b x₁ c r b′
+visit-skip x c s i t recent base values at b x₁ r b′ u li lu lt tick h f o ef eo off =
+    let P = pulseIn (s .main) i u (valueOf recent base values (u + 1)) in
+    visit-law x c s i t recent base values at b x₁ r b′ x₁ c (x₁ .row) (x₁ .level) u li lu lt tick
+    (record {
+      retires = h;
+      brackets =
+          no-bracket x₁ c P (bracketIn s i u recent base values) i t
+          (sym (bracket-none s i u recent base values f ef (or-left f o off)));
+      deals =
+          deal-none (x₁ .f1) (x₁ .row) (x₁ .level) (x₁ .on) P i li (bit (getD (x₁ .on) 0 0) i) (bit (getD (x₁ .on) 1 0) i) (bit (getD (x₁ .on) 2 0) i) (bit (getD (x₁ .on) 3 0) i) o refl refl
+          refl refl eo (or-right f o off);
+    })

@@ -1,0 +1,232 @@
+// A block of up to 64 ticks: the words move on, the machine works the ticks that became known, and what is over is handed out.
+ghost use Prim.Native.Nat.{_<_, _≤_};
+ghost use mathlib.Core.Path.{_≡_};
+ghost use mathlib.Core.Bool.{true};
+ghost use Rattle.blocks.specs.Steps.{VisitPost, LatePost, WorkPost, bare, Waits, Stays, BlockPost};
+use framing::bracket;
+use front::span::Span;
+use front::span::bracket_at;
+use front::span::framed;
+use front::span::pulse_at;
+use front::span::span_of;
+use front::span::tick_of;
+use front::span::top;
+use front::values::value_at;
+use front::words::Front;
+use front::words::advance;
+use front::words::is_still;
+use hearing::any_on;
+use hearing::deal;
+use lanes::hand_out;
+use lanes::mask;
+use lanes::retire;
+use packing::Planes;
+use plane::lowest;
+use plane::without_lowest;
+use replies::ended;
+use rules::Counts;
+use rules::Machine;
+
+// A piece on its way through, its machine apart from the processor: the words and the machine so far, and the place in the buffer behind the last record.
+pub struct Run {
+    pub front: Front,
+    pub machine: Machine,
+    pub at: usize,
+}
+
+// The same while the places stand as columns.
+pub struct Stand {
+    pub front: Front,
+    pub counts: Counts,
+    pub at: usize,
+}
+
+// The counts after a visit, and the place in the buffer behind the last record.
+struct Visited {
+    pub counts: Counts,
+    pub at: usize,
+}
+
+// The columns at the i-th tick of the span, where an edge stands, once t ticks are taken.
+fn visit(
+    f1: &mut [u32; 4],
+    marks: &mut [u16; 4],
+    row: &mut [u16; 24],
+    level: &mut [f64; 4],
+    on: &mut [u64; 8],
+    c: Counts,
+    s: Span,
+    i: u32,
+    t: u32,
+    recent: &[u8; 256],
+    base: u32,
+    values: &[u8],
+    out: &mut [u8],
+    at: usize,
+) -> Visited
+    requires { ⌜ (i < 64) × (t < 65000) ⌝ }
+    ensures { λ x. ⌜ VisitPost (record { f1 = now (f1 .entry); marks = now (marks .entry); row = now (row .entry); level = now (level .entry); on = now (on .entry) }) c s i t (now (recent .entry)) base (now (values .entry)) at (now (out .entry)) (record { f1 = now (f1 .exit); marks = now (marks .exit); row = now (row .exit); level = now (level .exit); on = now (on .exit) }) (x .counts) (x .at) (now (out .exit)) ⌝ }
+{
+    let u = tick_of(t, i);
+    let end = retire(f1, marks, row, level, on, u, out, at);
+    if !(framed(s, i) | any_on(on, i)) {
+        return Visited { counts: c, at: end };
+    }
+    let v = value_at(recent, base, values, u + 1);
+    let e = pulse_at(s.main, i, u, v);
+    let b = bracket_at(s, i, u, recent, base, values);
+    let counts = bracket(f1, marks, row, level, on, c, e, b, i, t);
+    deal(f1, row, level, on, e, i);
+    Visited { counts, at: end }
+}
+
+// Hands out what is due once t ticks are taken. The place in the buffer behind it.
+fn hand_late(
+    f1: &mut [u32; 4],
+    marks: &mut [u16; 4],
+    row: &mut [u16; 24],
+    level: &mut [f64; 4],
+    on: &mut [u64; 8],
+    t: u32,
+    out: &mut [u8],
+    at: usize,
+) -> usize
+    ensures { λ r. ⌜ LatePost (record { f1 = now (f1 .entry); marks = now (marks .entry); row = now (row .entry); level = now (level .entry); on = now (on .entry) }) t at (now (out .entry)) (record { f1 = now (f1 .exit); marks = now (marks .exit); row = now (row .exit); level = now (level .exit); on = now (on .exit) }) r (now (out .exit)) ⌝ }
+{
+    if t < 179 {
+        return at;
+    }
+    hand_out(f1, marks, row, level, on, t - 179, out, at)
+}
+
+// The columns at the last r ticks of the span, once t ticks are taken.
+fn work(
+    f1: &mut [u32; 4],
+    marks: &mut [u16; 4],
+    row: &mut [u16; 24],
+    level: &mut [f64; 4],
+    on: &mut [u64; 8],
+    c: Counts,
+    s: Span,
+    r: u32,
+    t: u32,
+    recent: &[u8; 256],
+    base: u32,
+    values: &[u8],
+    out: &mut [u8],
+    at: usize,
+) -> Visited
+    requires { ⌜ (0 < r) × (r ≤ 64) × (t < 65000) ⌝ }
+    ensures { λ x. ⌜ WorkPost (record { f1 = now (f1 .entry); marks = now (marks .entry); row = now (row .entry); level = now (level .entry); on = now (on .entry) }) c s r t (now (recent .entry)) base (now (values .entry)) at (now (out .entry)) (record { f1 = now (f1 .exit); marks = now (marks .exit); row = now (row .exit); level = now (level .exit); on = now (on .exit) }) (x .counts) (x .at) (now (out .exit)) ⌝ }
+{
+    let mut todo = top(s.due, r);
+    if todo == 0 {
+        let end = hand_late(f1, marks, row, level, on, t, out, at);
+        return Visited { counts: c, at: end };
+    }
+    mask(f1, marks, on, t);
+    let mut counts = c;
+    let mut place = at;
+    while todo != 0 {
+        let i = lowest(todo);
+        let v = visit(
+            f1,
+            marks,
+            row,
+            level,
+            on,
+            counts,
+            s,
+            i,
+            t,
+            recent,
+            base,
+            values,
+            out,
+            place,
+        );
+        let next = v.counts;
+        counts = next;
+        place = v.at;
+        todo = without_lowest(todo);
+    }
+    let end = hand_late(f1, marks, row, level, on, t, out, place);
+    Visited { counts, at: end }
+}
+
+// Whether none of the planes has a flag.
+fn is_bare(x: Planes) -> bool
+    ensures { λ r. ⌜ r ≡ bare x ⌝ }
+{
+    (x.a == 0) & ((x.p == 0) & ((x.n == 0) & (x.m == 0)))
+}
+
+// Whether no reply is due once t ticks are taken.
+pub fn none_due(f1: &[u32; 4], t: u32) -> bool
+    ensures { λ r. ⌜ (r ≡ true → Waits (now (f1 .entry)) t) ⌝ }
+{
+    if t < 179 {
+        return true;
+    }
+    !ended(f1[0], t - 179)
+}
+
+// Whether a block of these planes leaves words and columns as they are, once t ticks are taken.
+pub fn stays(f: Front, f1: &[u32; 4], x: Planes, t: u32) -> bool
+    ensures { λ r. ⌜ (r ≡ true → Stays f (now (f1 .entry)) x t) ⌝ }
+{
+    if !is_bare(x) {
+        return false;
+    }
+    if !is_still(f) {
+        return false;
+    }
+    none_due(f1, t)
+}
+
+// The columns after r ticks more, whose flags are the r low bits of x; they make t ticks.
+pub fn block(
+    f1: &mut [u32; 4],
+    marks: &mut [u16; 4],
+    row: &mut [u16; 24],
+    level: &mut [f64; 4],
+    on: &mut [u64; 8],
+    o: Stand,
+    x: Planes,
+    r: u32,
+    t: u32,
+    recent: &[u8; 256],
+    base: u32,
+    values: &[u8],
+    out: &mut [u8],
+) -> Stand
+    requires { ⌜ (0 < r) × (r ≤ 64) × (t < 65000) ⌝ }
+    ensures { λ y. ⌜ BlockPost (record { f1 = now (f1 .entry); marks = now (marks .entry); row = now (row .entry); level = now (level .entry); on = now (on .entry) }) o x r t (now (recent .entry)) base (now (values .entry)) (now (out .entry)) (record { f1 = now (f1 .exit); marks = now (marks .exit); row = now (row .exit); level = now (level .exit); on = now (on .exit) }) y (now (out .exit)) ⌝ }
+{
+    let before = o.front;
+    let counts = o.counts;
+    let front = advance(before, x, r);
+    let s = span_of(front);
+    let v = work(
+        f1,
+        marks,
+        row,
+        level,
+        on,
+        counts,
+        s,
+        r,
+        t,
+        recent,
+        base,
+        values,
+        out,
+        o.at,
+    );
+    let after = v.counts;
+    Stand {
+        front,
+        counts: after,
+        at: v.at,
+    }
+}

@@ -1,0 +1,2 @@
+-- Words of ticks.
+pub mod Masks

@@ -1,0 +1,89 @@
+-- What the functions of a piece answer, for the trace that their words and values belong to.
+use Prim.Native.Nat.{ℕ, _+_, _-_, _*_, _≤_}
+use mathlib.Core.Bool.{cond}
+use mathlib.Core.List.{List}
+use mathlib.Core.Path.{_≡_}
+use lib.Dec.{ltb}
+use lib.ListN.{length, take}
+use Rattle.rules.specs.Settings.{standard}
+use Rattle.rules.specs.Lists.{All}
+use Rattle.rules.specs.Samples.{Trace, _⧺_, sweepLimit}
+use Rattle.rules.specs.Calls.{fresh, silence, takeRoom, closeRoom}
+use Rattle.machine.specs.Places.{machineOf}
+use Rattle.columns.specs.Columns.{Rows, Sized}
+use Rattle.blocks.specs.declared.Run.{Run}
+use Rattle.blocks.specs.declared.Stand.{Stand}
+use Rattle.front.specs.Words.{frontOf, recentOf}
+use Rattle.front.specs.Post.{Reads}
+use Rattle.blocks.specs.Steps.{stateAt, Bounded, Fed, runOf, FedColumns}
+
+-- a block has 64 ticks, or all that are left
+abbrev pub blockLength : ℕ → ℕ
+blockLength n = cond (ltb n 64) n 64
+
+-- ---- a piece
+
+-- o is where a piece of flags and values begins, behind the trace T; the buffer b₀ has the room that document 01 asks for
+pub record Begins (T : Trace) (o : Run) (recent : List ℕ) (base : ℕ) (flags values b₀ : List ℕ) : Type 0 where
+  pub front : o .front ≡ frontOf (T .flags)
+  pub machine : o .machine ≡ machineOf (stateAt T (length (T .flags) - 178))
+  pub place : o .at ≡ 0
+  pub kept : recent ≡ recentOf (T .values)
+  pub ticks : length (T .flags) ≡ base
+  pub alike : length (T .flags) ≡ length (T .values)
+  pub alike-piece : length flags ≡ length values
+  pub bytes : All (λ v. v ≤ 255) (T .values)
+  pub bytes-piece : All (λ v. v ≤ 255) values
+  pub limit : base + length flags ≤ sweepLimit
+  pub room : takeRoom (length flags) ≤ length b₀
+
+-- the first n ticks of a piece
+abbrev pub upTo : List ℕ → List ℕ → ℕ → Trace
+upTo flags values n = record { flags = take n flags; values = take n values }
+
+-- o is where flags and values begin, behind the trace T: at each of their ticks edges stand within the limit of a sweep, the values are at hand, and the buffer b₀ has room
+pub record Enters (T : Trace) (o : Run) (recent : List ℕ) (base : ℕ) (flags values b₀ : List ℕ) : Type 0 where
+  pub front : o .front ≡ frontOf (T .flags)
+  pub machine : o .machine ≡ machineOf (stateAt T (length (T .flags) - 178))
+  pub place : o .at ≡ 0
+  pub ticks : length (T .flags) ≡ base
+  pub alike : length (T .flags) ≡ length (T .values)
+  pub alike-piece : length flags ≡ length values
+  pub bounded : (n : ℕ) → n ≤ length flags → Bounded (T ⧺ upTo flags values n)
+  pub reads : (n : ℕ) → n ≤ length flags → Reads (T ⧺ upTo flags values n) (base + n) recent base values
+  pub room : (n : ℕ) → n ≤ length flags → 18 * length (fresh standard T (upTo flags values n)) ≤ length b₀
+
+pub record BlocksPost (x : Rows) (o : Stand) (recent : List ℕ) (base : ℕ) (flags values b : List ℕ) (x′ : Rows) (y : Stand) (b′ : List ℕ) : Type 0 where
+  pub same : length b′ ≡ length b
+  pub result : Sized x → (T : Trace) → Enters T (runOf x o) recent base flags values b → FedColumns T (record { flags = flags; values = values }) b x′ y b′
+
+pub record ColumnsPost (x : Rows) (o : Stand) (recent : List ℕ) (base : ℕ) (flags values b : List ℕ) (x′ : Rows) (y : Stand) (b′ : List ℕ) : Type 0 where
+  pub same : length b′ ≡ length b
+  pub result : Sized x → (T : Trace) → Begins T (runOf x o) recent base flags values b → FedColumns T (record { flags = flags; values = values }) b x′ y b′
+
+pub record RunPost (o : Run) (recent : List ℕ) (base : ℕ) (flags values b : List ℕ) (y : Run) (b′ : List ℕ) : Type 0 where
+  pub same : length b′ ≡ length b
+  pub result : (T : Trace) → Enters T o recent base flags values b → Fed T (record { flags = flags; values = values }) b y b′
+
+pub record FeedPost (o : Run) (recent : List ℕ) (base : ℕ) (flags values b : List ℕ) (y : Run) (b′ : List ℕ) : Type 0 where
+  pub same : length b′ ≡ length b
+  pub result : (T : Trace) → Begins T o recent base flags values b → Fed T (record { flags = flags; values = values }) b y b′
+
+-- ---- the ticks past the end
+
+-- o is where the trace T ends; the buffer b₀ has the room that document 01 asks of a close
+pub record Ends (T : Trace) (o : Run) (recent : List ℕ) (base : ℕ) (b₀ : List ℕ) : Type 0 where
+  pub front : o .front ≡ frontOf (T .flags)
+  pub machine : o .machine ≡ machineOf (stateAt T (length (T .flags) - 178))
+  pub place : o .at ≡ 0
+  pub kept : recent ≡ recentOf (T .values)
+  pub ticks : length (T .flags) ≡ base
+  pub alike : length (T .flags) ≡ length (T .values)
+  pub bytes : All (λ v. v ≤ 255) (T .values)
+  pub limit : base ≤ sweepLimit
+  pub room : closeRoom ≤ length b₀
+
+-- 448 zeros complete every reply
+pub record DrainPost (o : Run) (recent : List ℕ) (base : ℕ) (b : List ℕ) (y : Run) (b′ : List ℕ) : Type 0 where
+  pub same : length b′ ≡ length b
+  pub result : (T : Trace) → Ends T o recent base b → Fed T (silence 448) b y b′
