@@ -1,2 +1,2 @@
--- What the functions of a piece answer.
+-- What the functions of a block answer.
 pub mod Steps

@@ -1,0 +1,2 @@
+-- What the functions of a piece answer.
+pub mod Feeding
