@@ -6,6 +6,8 @@ ghost use Rattle.rules.specs.Calls.{openAnswer, takeAnswer, closeAnswer, takeRo
 ghost use Rattle.verdicts.specs.Numbers.{verdictOf};
 use edges::flags::has_bad;
 
+pub mod whole;
+
 // Open. 1: mode not 1 to 3. 2: azimuth above 16,383.
 pub fn open_refusal(mode: u8, azimuth: u16) -> u8
     ensures { λ r. ⌜ verdictOf r ≡ openAnswer mode azimuth ⌝ }
