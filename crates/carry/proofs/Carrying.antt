@@ -42,7 +42,7 @@ use Rattle.carry.specs.declared.Step.{Step}
 use Rattle.carry.specs.declared.Step.the-variants.{Goes, Stops, Full}
 use Rattle.carry.specs.declared.Stepped.{Stepped}
 use Rattle.carry.specs.Outcomes.{Outcome, goes, stops, openedAs, freshOf, takenAs, restOf, closedAs, carried, lineAt, printed}
-use Rattle.carry.specs.Post.{steppedBy, roomy, steppedAs, outputAs, placeOf, StepPost, CarryPost, pieceOf, frameAt, saidAt, numberOf, countIn}
+use Rattle.carry.specs.Post.{steppedBy, roomy, steppedAs, outputAs, placeOf, StepPost, CarryPost, stepOf, TakePrints, TakeShown, ClosePrints, CloseShown, pieceOf, frameAt, saidAt, numberOf, countIn}
 
 -- ---- answers taken apart
 
@@ -358,6 +358,57 @@ module _ (p : Processor) (at : ℕ) (b : List ℕ) where
                 place = omega (arith, one .place, two .place, length-append R T);
                 buffer = over-at-next R T b b₁ b′ at e (one .place) (omega (arith, one .place, size-R, few)) (one .buffer) (two .buffer);
               }
+
+-- ---- what was printed beside an answer
+
+module _ (p : Processor) (at : ℕ) (b : List ℕ) (room : at + 339 ≤ length b) where
+  pub take-step : (P : Trace) → length (P .flags) ≤ 64 → (h₀ h : List ℕ) → length h₀ ≡ 72 → (t : Taken) → TakePost p P h₀ t h → (s : Step) (b′ : List ℕ) → TakeShown (t .answer) h at b s b′
+      → CarryPost (λ σ. takenAs (takeVerdict σ P 72) σ P) p at b (record { step = s; processor = t .processor }) b′
+  take-step P small h₀ h lent t post s b′ w =
+      subst (λ (x : Step). CarryPost (λ σ. takenAs (takeVerdict σ P 72) σ P) p at b (record { step = x; processor = t .processor }) b′) (sym (w .step)) (go (t .answer) refl (w .prints))
+    where
+      go : (a : Answer) → t .answer ≡ a → TakePrints a h at b (w .place) b′
+          → CarryPost (λ σ. takenAs (takeVerdict σ P 72) σ P) p at b (record { step = stepOf a (w .place); processor = t .processor }) b′
+      go (Accepted n) e q = take-accepted p at b room P small h₀ h lent t post n e (18 * min n 4) (w .place) b′ refl q
+      go (Refused k) e q =
+          take-refused p at b room P small h₀ h lent t post k e (record { step = Stops k (w .place); processor = t .processor }) b′
+          (stop-post (t .processor) at b room k (w .place) b′ q)
+
+  pub close-step : (h₀ h : List ℕ) → length h₀ ≡ 144 → (t : Closed) → ClosePost p h₀ t h → (s : Step) (b′ : List ℕ) → CloseShown (t .answer) (t .totals) h at b s b′
+      → CarryPost (λ σ. closedAs (closeVerdict σ 144) σ) p at b (record { step = s; processor = t .processor }) b′
+  close-step h₀ h lent t post s b′ w =
+      subst (λ (x : Step). CarryPost (λ σ. closedAs (closeVerdict σ 144) σ) p at b (record { step = x; processor = t .processor }) b′) (sym (w .step)) (go (t .answer) refl (w .prints))
+    where
+      go : (a : Answer) → t .answer ≡ a → ClosePrints a (t .totals) h at b (w .place) b′
+          → CarryPost (λ σ. closedAs (closeVerdict σ 144) σ) p at b (record { step = stepOf a (w .place); processor = t .processor }) b′
+      go (Accepted n) e q = close-accepted p at b room h₀ h lent t post n e (18 * min n 8) (q .middle) (w .place) (q .between) b′ refl (q .first) (q .then-totals)
+      go (Refused k) e q =
+          close-refused p at b room h₀ h lent t post k e (record { step = Stops k (w .place); processor = t .processor }) b′
+          (stop-post (t .processor) at b room k (w .place) b′ q)
+
+-- what was printed for each answer
+pub take-refusal : (a : Answer) (k : ℕ) → a ≡ Refused k → (h : List ℕ) (at : ℕ) (b : List ℕ) (e : ℕ) (b′ : List ℕ) → WritePost (refusalLine k) at b e b′ → TakeShown a h at b (Stops k e) b′
+take-refusal a k q h at b e b′ w = subst (λ (x : Answer). TakeShown x h at b (Stops k e) b′) (sym q) (record { place = e; step = refl; prints = w })
+
+pub take-replies : (a : Answer) (n : ℕ) → a ≡ Accepted n → (h : List ℕ) (at : ℕ) (b : List ℕ) (e : ℕ) (b′ : List ℕ) (size : ℕ) → size ≡ 18 * min n 4
+    → WritePost (recordLines (length (take size h) / 18) (take size h)) at b e b′ → TakeShown a h at b (Goes e) b′
+take-replies a n q h at b e b′ size cut w =
+    subst (λ (x : Answer). TakeShown x h at b (Goes e) b′) (sym q)
+    (record { place = e; step = refl; prints = subst (λ (k : ℕ). WritePost (recordLines (length (take k h) / 18) (take k h)) at b e b′) cut w })
+
+pub close-refusal : (a : Answer) (k : ℕ) → a ≡ Refused k → (x : Totals) (h : List ℕ) (at : ℕ) (b : List ℕ) (e : ℕ) (b′ : List ℕ) → WritePost (refusalLine k) at b e b′
+    → CloseShown a x h at b (Stops k e) b′
+close-refusal a k q x h at b e b′ w = subst (λ (y : Answer). CloseShown y x h at b (Stops k e) b′) (sym q) (record { place = e; step = refl; prints = w })
+
+pub close-replies : (a : Answer) (n : ℕ) → a ≡ Accepted n → (x : Totals) (h : List ℕ) (at : ℕ) (b : List ℕ) (m : ℕ) (b₁ : List ℕ) (e : ℕ) (b′ : List ℕ) (size : ℕ) → size ≡ 18 * min n 8
+    → WritePost (recordLines (length (take size h) / 18) (take size h)) at b m b₁ → WritePost (totalsLine x) m b₁ e b′ → CloseShown a x h at b (Goes e) b′
+close-replies a n q x h at b m b₁ e b′ size cut w v =
+    subst (λ (y : Answer). CloseShown y x h at b (Goes e) b′) (sym q)
+    (record {
+      place = e;
+      step = refl;
+      prints = record { middle = m; between = b₁; first = subst (λ (k : ℕ). WritePost (recordLines (length (take k h) / 18) (take k h)) at b m b₁) cut w; then-totals = v };
+    })
 
 -- ---- what a line says, taken apart
 

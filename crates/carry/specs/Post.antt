@@ -1,5 +1,5 @@
 -- What a line leaves in the processor and in the output.
-use Prim.Native.Nat.{ℕ, _+_, _≤_, _<_}
+use Prim.Native.Nat.{ℕ, _+_, _*_, _/_, _≤_, _<_, min}
 use mathlib.Core.Bool.{Bool, true, false}
 use mathlib.Core.List.{List}
 use mathlib.Core.Path.{_≡_}
@@ -15,7 +15,11 @@ use Rattle.reading.specs.declared.Line.{Line}
 use Rattle.reading.specs.declared.Line.the-variants.{Frame as Framed, Refused}
 use Rattle.reading.specs.declared.Frame.{Frame}
 use Rattle.reading.specs.declared.Frame.the-variants.{Open, Samples, Close}
-use Rattle.frames.specs.Writing.{refusalLine}
+use Rattle.frames.specs.Writing.{recordLines, totalsLine, refusalLine}
+use Rattle.frames.specs.Post.{WritePost}
+use Rattle.rules.specs.declared.Totals.{Totals}
+use Rattle.sweep.specs.declared.Answer.{Answer}
+use Rattle.sweep.specs.declared.Answer.the-variants.{Accepted, Refused as Turned}
 use Rattle.ends.specs.Ends.{LinePast}
 use Rattle.carry.specs.declared.Step.{Step}
 use Rattle.carry.specs.declared.Step.the-variants.{Goes, Stops, Full}
@@ -59,6 +63,41 @@ pub record CarryPost (o : Sweep → Outcome) (p : Processor) (at : ℕ) (b : Lis
   pub inside : placeOf (r .step) at ≤ length b
   pub result : (σ : Sweep) → Made σ p → r ≡ steppedBy (o σ) p at
   pub output : (σ : Sweep) → Made σ p → b′ ≡ over-at (printed (o σ)) at b
+
+-- the step of an answer whose lines end at place e
+abbrev pub stepOf : Answer → ℕ → Step
+stepOf (Accepted n) e = Goes e
+stepOf (Turned k) e = Stops k e
+
+-- the lines of the first records of a lent buffer h: as many as were handed out, at most `most`
+abbrev pub handedLines : ℕ → ℕ → List ℕ → List ℕ
+handedLines n most h = recordLines (length (take (18 * min n most) h) / 18) (take (18 * min n most) h)
+
+-- for every answer, what is written from place at on, up to place e: the refusal, or the replies
+abbrev pub TakePrints : Answer → List ℕ → ℕ → List ℕ → ℕ → List ℕ → Type 0
+TakePrints (Accepted n) h at b e b′ = WritePost (handedLines n 4 h) at b e b′
+TakePrints (Turned k) h at b e b′ = WritePost (refusalLine k) at b e b′
+
+pub record TakeShown (a : Answer) (h : List ℕ) (at : ℕ) (b : List ℕ) (r : Step) (b′ : List ℕ) : Type 0 where
+  pub place : ℕ
+  pub step : r ≡ stepOf a place
+  pub prints : TakePrints a h at b place b′
+
+-- the same for a close, with the totals behind the replies
+pub record RepliesThenTotals (n : ℕ) (x : Totals) (h : List ℕ) (at : ℕ) (b : List ℕ) (e : ℕ) (b′ : List ℕ) : Type 0 where
+  pub middle : ℕ
+  pub between : List ℕ
+  pub first : WritePost (handedLines n 8 h) at b middle between
+  pub then-totals : WritePost (totalsLine x) middle between e b′
+
+abbrev pub ClosePrints : Answer → Totals → List ℕ → ℕ → List ℕ → ℕ → List ℕ → Type 0
+ClosePrints (Accepted n) x h at b e b′ = RepliesThenTotals n x h at b e b′
+ClosePrints (Turned k) x h at b e b′ = WritePost (refusalLine k) at b e b′
+
+pub record CloseShown (a : Answer) (x : Totals) (h : List ℕ) (at : ℕ) (b : List ℕ) (r : Step) (b′ : List ℕ) : Type 0 where
+  pub place : ℕ
+  pub step : r ≡ stepOf a place
+  pub prints : ClosePrints a x h at b place b′
 
 abbrev pub pieceOf : List ℕ → List ℕ → Trace
 pieceOf flags values = record { flags = flags; values = values }

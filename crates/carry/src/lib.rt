@@ -6,13 +6,14 @@ ghost use lib.ListN.{length};
 ghost use Rattle.rules.specs.Calls.{openAnswer};
 ghost use Rattle.sweep.specs.Post.{takeVerdict, closeVerdict};
 ghost use Rattle.carry.specs.Outcomes.{stops, openedAs, takenAs, closedAs};
-ghost use Rattle.carry.specs.Post.{CarryPost, StepPost, RestPost, pieceOf, saidAt, numberOf, countIn, roomy as roomy′};
+ghost use Rattle.carry.specs.Post.{CarryPost, TakeShown, CloseShown, StepPost, RestPost, pieceOf, saidAt, numberOf, countIn, roomy as roomy′};
 use frames::refusal_line;
 use frames::reply_lines;
 use frames::totals_line;
 use reading::Frame;
 use reading::Line;
 use reading::read;
+use rules::Totals;
 use sweep::Answer;
 use sweep::Processor;
 use sweep::close;
@@ -73,6 +74,24 @@ pub fn least(n: usize, most: usize) -> usize
     most
 }
 
+// What a take of at most four replies prints: they stand in the buffer that it was lent.
+fn show_take(answer: Answer, handed: &[u8], out: &mut [u8], at: usize) -> Step
+    requires { ⌜ 72 ≤ length (now handed) ⌝ }
+    ensures { λ r. ⌜ TakeShown answer (now (handed .entry)) at (now (out .entry)) r (now (out .exit)) ⌝ }
+{
+    match answer {
+        Answer::Refused(number) => {
+            let end = refusal_line(number, out, at);
+            Step::Stops(number, end)
+        }
+        Answer::Accepted(count) => {
+            let size = 18 * least(count, 4);
+            let end = reply_lines(&handed[..size], out, at);
+            Step::Goes(end)
+        }
+    }
+}
+
 // A piece of at most 64 ticks, for which 72 bytes suffice.
 fn taken(p: Processor, flags: &[u8], values: &[u8], out: &mut [u8], at: usize) -> Stepped
     requires { ⌜ (length (now flags) ≤ 64) × (at + 339 ≤ length (now out)) ⌝ }
@@ -81,16 +100,26 @@ fn taken(p: Processor, flags: &[u8], values: &[u8], out: &mut [u8], at: usize) -
     let mut handed = [0u8; 72];
     let t = take(p, flags, values, &mut handed);
     let answer = t.answer;
-    let next = t.processor;
+    let step = show_take(answer, &handed, out, at);
+    let processor = t.processor;
+    Stepped { step, processor }
+}
+
+// What a close prints: its replies, at most eight, stand in the buffer that it was lent.
+fn show_close(answer: Answer, totals: Totals, handed: &[u8], out: &mut [u8], at: usize) -> Step
+    requires { ⌜ 144 ≤ length (now handed) ⌝ }
+    ensures { λ r. ⌜ CloseShown answer totals (now (handed .entry)) at (now (out .entry)) r (now (out .exit)) ⌝ }
+{
     match answer {
-        Answer::Refused(number) => stop(next, number, out, at),
+        Answer::Refused(number) => {
+            let end = refusal_line(number, out, at);
+            Step::Stops(number, end)
+        }
         Answer::Accepted(count) => {
-            let size = 18 * least(count, 4);
-            let end = reply_lines(&handed[..size], out, at);
-            Stepped {
-                step: Step::Goes(end),
-                processor: next,
-            }
+            let size = 18 * least(count, 8);
+            let place = reply_lines(&handed[..size], out, at);
+            let end = totals_line(totals, out, place);
+            Step::Goes(end)
         }
     }
 }
@@ -102,20 +131,10 @@ fn closed(p: Processor, out: &mut [u8], at: usize) -> Stepped
     let mut handed = [0u8; 144];
     let c = close(p, &mut handed);
     let answer = c.answer;
-    let next = c.processor;
-    match answer {
-        Answer::Refused(number) => stop(next, number, out, at),
-        Answer::Accepted(count) => {
-            let totals = c.totals;
-            let size = 18 * least(count, 8);
-            let place = reply_lines(&handed[..size], out, at);
-            let end = totals_line(totals, out, place);
-            Stepped {
-                step: Step::Goes(end),
-                processor: next,
-            }
-        }
-    }
+    let totals = c.totals;
+    let step = show_close(answer, totals, &handed, out, at);
+    let processor = c.processor;
+    Stepped { step, processor }
 }
 
 fn number_of(line: Line) -> u8

@@ -1,52 +1,47 @@
 -- An opened sweep has no tick.
-use Prim.Native.Nat.{ℕ, _≤_, _<_}
-use mathlib.Core.Path.{_≡_}
+use Prim.Native.Nat.{ℕ}
+use mathlib.Core.Path.{_≡_, sym, ap, _∙_}
 use mathlib.Core.List.{[]}
 use lib.ListN.{replicate}
-use borrow.Author.Tests.{lt-leb, le-leb, lt-ltb, le-ltb}
 use Rattle.rules.specs.declared.Machine.{Machine}
+use Rattle.rules.specs.Samples.{Trace}
 use Rattle.rules.specs.Machine.{start, after}
-use Rattle.rules.specs.Calls.{refused, openAnswer}
+use Rattle.rules.specs.Calls.{Answer as Verdict, accepted, refused, openAnswer}
 use Rattle.machine.specs.Places.{machineOf}
+use Rattle.sweep.specs.declared.Answer.{Answer}
 use Rattle.sweep.specs.declared.Answer.the-variants.{Accepted, Refused}
 use Rattle.sweep.specs.declared.Processor.{Processor}
+use Rattle.sweep.specs.declared.Opened.{Opened}
 use Rattle.front.specs.declared.words.Front.{Front}
 use Rattle.front.specs.Words.{frontOf, recentOf}
 use Rattle.sweep.specs.State.{runningProcessor, idleProcessor}
-use Rattle.sweep.specs.Post.{openOf}
+use Rattle.sweep.specs.Post.{openAs, openOf}
+
+abbrev nothing : Trace
+nothing = record { flags = []; values = [] }
 
 -- ---- processors with no tick taken
 
-module _ (f : Front) (m : Machine) (ef : f ≡ frontOf []) (em : m ≡ machineOf start) where
-  begun : (mode azimuth : ℕ) → record { mode = mode; azimuth = azimuth; taken = 0; front = f; recent = replicate 256 0; machine = m } ≡ runningProcessor mode azimuth (record { flags = []; values = [] })
-  unfolding runningProcessor recentOf after
-  begun mode azimuth = λ i. record { mode = mode; azimuth = azimuth; taken = 0; front = ef i; recent = replicate 256 0; machine = em i }
+pub begun-law : (f : Front) (m : Machine) → f ≡ frontOf [] → m ≡ machineOf start → (mode azimuth : ℕ)
+    → record { mode = mode; azimuth = azimuth; taken = 0; front = f; recent = replicate 256 0; machine = m } ≡ runningProcessor mode azimuth nothing
+unfolding runningProcessor recentOf after
+begun-law f m ef em mode azimuth = λ i. record { mode = mode; azimuth = azimuth; taken = 0; front = ef i; recent = replicate 256 0; machine = em i }
 
-  pub idle-law : record { mode = 0; azimuth = 0; taken = 0; front = f; recent = replicate 256 0; machine = m } ≡ idleProcessor
-  unfolding idleProcessor
-  idle-law = begun 0 0
+pub idle-law : (p : Processor) → p ≡ runningProcessor 0 0 nothing → p ≡ idleProcessor
+unfolding idleProcessor
+idle-law p e = e
 
-  pub open-law : (mode azimuth : ℕ) → 1 ≤ mode → mode ≤ 3 → azimuth ≤ 16383
-      → record { answer = Accepted 0; processor = record { mode = mode; azimuth = azimuth; taken = 0; front = f; recent = replicate 256 0; machine = m } } ≡ openOf mode azimuth
-  unfolding openOf openAnswer
-  open-law mode azimuth a b c =
-      let e = begun mode azimuth in
-      rw (le-leb 1 mode a, le-leb mode 3 b, le-ltb 16383 azimuth c) (λ i. record { answer = Accepted 0; processor = e i })
+-- ---- openings
 
--- ---- refused openings
+pub beside : (a : Answer) {p q : Processor} → p ≡ q → _≡_ {A = Opened} (record { answer = a; processor = p }) (record { answer = a; processor = q })
+beside a e = λ i. record { answer = a; processor = e i }
 
-refused-open : (mode azimuth k : ℕ) (p : Processor) → p ≡ idleProcessor → openAnswer mode azimuth ≡ refused k → record { answer = Refused k; processor = p } ≡ openOf mode azimuth
+pub open-no : (mode azimuth k : ℕ) (r : Opened) → openAnswer mode azimuth ≡ refused k → r ≡ record { answer = Refused k; processor = runningProcessor 0 0 nothing }
+    → r ≡ openOf mode azimuth
+unfolding openOf idleProcessor
+open-no mode azimuth k r v e = e ∙ sym (ap (λ (x : Verdict). openAs x mode azimuth) v)
+
+pub open-yes : (mode azimuth : ℕ) (r : Opened) → openAnswer mode azimuth ≡ accepted → r ≡ record { answer = Accepted 0; processor = runningProcessor mode azimuth nothing }
+    → r ≡ openOf mode azimuth
 unfolding openOf
-refused-open mode azimuth k p e v = rw v (λ i. record { answer = Refused k; processor = e i })
-
-pub open-low : (mode azimuth : ℕ) (p : Processor) → p ≡ idleProcessor → mode < 1 → record { answer = Refused 1; processor = p } ≡ openOf mode azimuth
-unfolding openAnswer
-open-low mode azimuth p e h = refused-open mode azimuth 1 p e (rw (lt-leb 1 mode h))
-
-pub open-high : (mode azimuth : ℕ) (p : Processor) → p ≡ idleProcessor → 1 ≤ mode → 3 < mode → record { answer = Refused 1; processor = p } ≡ openOf mode azimuth
-unfolding openAnswer
-open-high mode azimuth p e h l = refused-open mode azimuth 1 p e (rw (le-leb 1 mode h, lt-leb mode 3 l))
-
-pub open-far : (mode azimuth : ℕ) (p : Processor) → p ≡ idleProcessor → 1 ≤ mode → mode ≤ 3 → 16383 < azimuth → record { answer = Refused 2; processor = p } ≡ openOf mode azimuth
-unfolding openAnswer
-open-far mode azimuth p e h l a = refused-open mode azimuth 2 p e (rw (le-leb 1 mode h, le-leb mode 3 l, lt-ltb 16383 azimuth a))
+open-yes mode azimuth r v e = e ∙ sym (ap (λ (x : Verdict). openAs x mode azimuth) v)

@@ -2,21 +2,22 @@
 use Prim.Native.Nat.{ℕ, suc, _+_, _-_, _*_, _/_, _≤_, _<_}
 use native.Mathlib.Omega.{arith}
 use native.Mathlib.Nat.{zero-add}
-use mathlib.Core.Path.{_≡_, refl, sym, ap, _∙_, subst}
+use mathlib.Core.Path.{_≡_, refl, sym, ap, _∙_}
 use mathlib.Core.Bool.{Bool, true, false, cond}
 use mathlib.Core.List.{List, [], _∷_, _++_}
+use lib.Dec.{ltb}
 use lib.ListN.{length, getD, replicate, length-append, length-replicate}
-use borrow.Author.Tests.{lt-ltb, le-ltb, eq-eqb, ne-eqb}
+use borrow.Author.Tests.{lt-ltb, le-ltb, ltb-false}
 use Rattle.rules.specs.declared.Reply.{Reply}
 use Rattle.rules.specs.declared.Counts.{Counts}
 use Rattle.rules.specs.declared.Machine.{Machine}
 use Rattle.rules.specs.declared.Totals.{Totals}
 use Rattle.rules.specs.Settings.{standard}
-use Rattle.rules.specs.Lists.{any, All}
-use Rattle.rules.specs.Samples.{Trace, _⧺_, bad}
+use Rattle.rules.specs.Lists.{All}
+use Rattle.rules.specs.Samples.{Trace, _⧺_}
 use Rattle.rules.specs.Machine.{final, State, after}
 use Rattle.rules.specs.Records.{records, totals, replies}
-use Rattle.rules.specs.Calls.{Answer as Verdict, accepted, refused, takeAnswer, closeAnswer, takeRoom, fresh, rest, silence}
+use Rattle.rules.specs.Calls.{Answer as Verdict, accepted, refused, takeAnswer, closeAnswer, fresh, rest, silence}
 use Rattle.rules.proofs.PastEnd.{rest-silence, past-end, after-silence}
 use Rattle.machine.specs.Places.{machineOf}
 use Rattle.rules.specs.Buffers.{over, over-at}
@@ -32,7 +33,7 @@ use Rattle.sweep.specs.Post.{takeVerdict, takeAs, takeBufferAs, TakePost
 use Rattle.blocks.specs.Steps.{stateAt, Fed}
 use Rattle.pieces.specs.Feeding.{FeedPost, DrainPost}
 use Rattle.front.specs.Post.{KeepPost}
-use Rattle.rules.proofs.Answers.{standard-allowed}
+use Rattle.rules.proofs.Answers.{standard-allowed, took}
 use Rattle.rules.specs.Edges.{edgeAt}
 use Rattle.rules.proofs.Outcomes.{after-balanced}
 
@@ -86,105 +87,42 @@ module _ (mode azimuth : ℕ) (T : Trace) (p : Processor) (e : p ≡ runningProc
   unfolding runningProcessor
   machine-of = ap (λ (q : Processor). q .machine) e
 
--- the sweep of a processor with mode 0 is none, and that of another runs
-made-none : (p : Processor) → p .mode ≡ 0 → (mode azimuth : ℕ) (T : Trace) → Made (running mode azimuth T) p → ⊥
+-- the sweep of a processor runs if its mode is not 0
+mode-none : (p : Processor) → Made none p → ltb 0 (p .mode) ≡ false
 unfolding processorOf
-made-none p z mode azimuth T m = omega (arith, z, mode-of mode azimuth T p (m .is), m .sound .named)
+mode-none p m = le-ltb 0 (p .mode) (omega (arith, ap (λ (q : Processor). q .mode) (m .is) ∙ idle-mode))
 
-made-some : (p : Processor) → 1 ≤ p .mode → Made none p → ⊥
+mode-running : (p : Processor) (mode azimuth : ℕ) (T : Trace) → Made (running mode azimuth T) p → ltb 0 (p .mode) ≡ true
 unfolding processorOf
-made-some p h m = omega (arith, h, ap (λ (q : Processor). q .mode) (m .is) ∙ idle-mode)
+mode-running p mode azimuth T m = lt-ltb 0 (p .mode) (omega (arith, mode-of mode azimuth T p (m .is), m .sound .named))
 
--- ---- refusals
+no-verdict : (k : ℕ) → refused k ≡ accepted → ⊥
+no-verdict k e = let z : _≡_ {A = ℕ} 0 1 = cc in omega arith
 
--- the numbers that did not hold, then the one that does
-module _ (P : Trace) (room taken : ℕ) where
-  n : ℕ
-  n = length (P .flags)
+-- ---- the verdict on a take, from the processor's mode and count of ticks
 
-  answer-4 : (n ≡ length (P .values) → ⊥) → takeAnswer true taken (P .flags) (P .values) room ≡ refused 4
-  unfolding takeAnswer n
-  answer-4 h = rw (ne-eqb (length (P .flags)) (length (P .values)) h)
-
-  answer-5 : n ≡ length (P .values) → 4096 < n → takeAnswer true taken (P .flags) (P .values) room ≡ refused 5
-  unfolding takeAnswer n
-  answer-5 a h = rw (eq-eqb (length (P .flags)) (length (P .values)) a, lt-ltb 4096 (length (P .flags)) h)
-
-  answer-6 : n ≡ length (P .values) → n ≤ 4096 → 32768 < taken + n → takeAnswer true taken (P .flags) (P .values) room ≡ refused 6
-  unfolding takeAnswer n
-  answer-6 a b h = rw (eq-eqb (length (P .flags)) (length (P .values)) a, le-ltb 4096 (length (P .flags)) b, lt-ltb 32768 (taken + length (P .flags)) h)
-
-  answer-7 : n ≡ length (P .values) → n ≤ 4096 → taken + n ≤ 32768 → room < takeRoom n → takeAnswer true taken (P .flags) (P .values) room ≡ refused 7
-  unfolding takeAnswer n
-  answer-7 a b c h =
-      rw (eq-eqb (length (P .flags)) (length (P .values)) a, le-ltb 4096 (length (P .flags)) b, le-ltb 32768 (taken + length (P .flags)) c, lt-ltb room (takeRoom (length (P .flags))) h)
-
-  answer-8 : n ≡ length (P .values) → n ≤ 4096 → taken + n ≤ 32768 → takeRoom n ≤ room → (b : Bool) → any bad (P .flags) ≡ b
-      → takeAnswer true taken (P .flags) (P .values) room ≡ cond b (refused 8) accepted
-  unfolding takeAnswer n
-  answer-8 a b c d x h =
-      rw (eq-eqb (length (P .flags)) (length (P .values)) a, le-ltb 4096 (length (P .flags)) b, le-ltb 32768 (taken + length (P .flags)) c, le-ltb room (takeRoom (length (P .flags))) d, h)
+take-verdict : (p : Processor) (P : Trace) (room : ℕ) (σ : Sweep) → Made σ p
+    → takeVerdict σ P room ≡ takeAnswer (ltb 0 (p .mode)) (p .taken) (P .flags) (P .values) room
+unfolding takeVerdict takeAnswer processorOf
+take-verdict p P room none m = rw (mode-none p m)
+take-verdict p P room (running mode azimuth T) m =
+    ap (λ (t : ℕ). takeAnswer true t (P .flags) (P .values) room) (sym (taken-of mode azimuth T p (m .is)))
+    ∙ ap (λ (x : Bool). takeAnswer x (p .taken) (P .flags) (P .values) room) (sym (mode-running p mode azimuth T m))
 
 -- a take that is turned down with k
-abbrev refusedTake : ℕ → Processor → Taken
-refusedTake k q = record { answer = Refused k; processor = q }
-
-take-no : (p : Processor) (P : Trace) (b : List ℕ) (k : ℕ) → ((σ : Sweep) → Made σ p → takeVerdict σ P (length b) ≡ refused k) → TakePost p P b (refusedTake k p) b
-take-no p P b k v =
+pub take-no : (p : Processor) (flags values b : List ℕ) (k : ℕ) (r : Taken) → takeAnswer (ltb 0 (p .mode)) (p .taken) flags values (length b) ≡ refused k
+    → r ≡ record { answer = Refused k; processor = p } → TakePost p (record { flags = flags; values = values }) b r b
+take-no p flags values b k r e q =
     record {
-      result = λ σ m. ap (refusedTake k) (m .is) ∙ sym (ap (λ (x : Verdict). takeAs x σ P) (v σ m));
-      buffer = λ σ m. sym (ap (λ (x : Verdict). takeBufferAs x σ P b) (v σ m));
+      result = λ σ m. q ∙ ap (λ (x : Processor). record { answer = Refused k; processor = x }) (m .is) ∙ sym (ap (λ (v : Verdict). takeAs v σ P) (verdict σ m));
+      buffer = λ σ m. sym (ap (λ (v : Verdict). takeBufferAs v σ P b) (verdict σ m));
     }
-
--- by the sweep behind the processor
-take-closed : (p : Processor) (P : Trace) (b : List ℕ) → p .mode ≡ 0 → TakePost p P b (record { answer = Refused 3; processor = p }) b
-unfolding takeVerdict takeAnswer
-take-closed p P b z = take-no p P b 3 go
   where
-    go : (σ : Sweep) → Made σ p → takeVerdict σ P (length b) ≡ refused 3
-    go none m = refl
-    go (running mode azimuth T) m = absurd (made-none p z mode azimuth T m)
+    P : Trace
+    P = record { flags = flags; values = values }
 
--- a sweep is open: the verdict goes by what the processor has taken
-take-open : (p : Processor) (P : Trace) (b : List ℕ) (k : ℕ) → 1 ≤ p .mode → takeAnswer true (p .taken) (P .flags) (P .values) (length b) ≡ refused k
-    → TakePost p P b (record { answer = Refused k; processor = p }) b
-unfolding takeVerdict processorOf
-take-open p P b k h e = take-no p P b k go
-  where
-    go : (σ : Sweep) → Made σ p → takeVerdict σ P (length b) ≡ refused k
-    go none m = absurd (made-some p h m)
-    go (running mode azimuth T) m = ap (λ (t : ℕ). takeAnswer true t (P .flags) (P .values) (length b)) (sym (taken-of mode azimuth T p (m .is))) ∙ e
-
--- the refusals of a take, in their order
-module _ (p : Processor) (flags values b : List ℕ) where
-  abbrev P : Trace
-  P = record { flags = flags; values = values }
-
-  pub take-3 : p .mode ≡ 0 → TakePost p P b (refusedTake 3 p) b
-  take-3 z = take-closed p P b z
-
-  module _ (mode : 1 ≤ p .mode) where
-    pub take-4 : (length flags ≡ length values → ⊥) → TakePost p P b (refusedTake 4 p) b
-    unfolding n
-    take-4 h = take-open p P b 4 mode (answer-4 P (length b) (p .taken) h)
-
-    pub take-5 : length flags ≡ length values → 4096 < length flags → TakePost p P b (refusedTake 5 p) b
-    unfolding n
-    take-5 a h = take-open p P b 5 mode (answer-5 P (length b) (p .taken) a h)
-
-    pub take-6 : length flags ≡ length values → length flags ≤ 4096 → 32768 < p .taken + length flags → TakePost p P b (refusedTake 6 p) b
-    unfolding n
-    take-6 a c h = take-open p P b 6 mode (answer-6 P (length b) (p .taken) a c h)
-
-    pub take-7 : length flags ≡ length values → length flags ≤ 4096 → p .taken + length flags ≤ 32768 → length b < takeRoom (length flags)
-        → TakePost p P b (refusedTake 7 p) b
-    unfolding n
-    take-7 a c d h = take-open p P b 7 mode (answer-7 P (length b) (p .taken) a c d h)
-
-    pub take-8 : length flags ≡ length values → length flags ≤ 4096 → p .taken + length flags ≤ 32768 → takeRoom (length flags) ≤ length b → any bad flags ≡ true
-        → TakePost p P b (refusedTake 8 p) b
-    unfolding n
-    take-8 a c d e h = take-open p P b 8 mode (answer-8 P (length b) (p .taken) a c d e true h)
+    verdict : (σ : Sweep) → Made σ p → takeVerdict σ P (length b) ≡ refused k
+    verdict σ m = take-verdict p P (length b) σ m ∙ e
 
 -- ---- an accepted take
 
@@ -200,9 +138,8 @@ bytes-all : (l : List ℕ) → ((i : ℕ) → getD l i 0 < 256) → All (λ v. v
 bytes-all [] h = tt
 bytes-all (v ∷ l) h = (omega (arith, h 0), bytes-all l (λ i. h (suc i)))
 
-module _ (p : Processor) (flags values b : List ℕ) (mode : 1 ≤ p .mode) (alike : length flags ≡ length values) (piece : length flags ≤ 4096)
-    (limit : p .taken + length flags ≤ 32768) (room : takeRoom (length flags) ≤ length b) (good : any bad flags ≡ false) (bytes : (i : ℕ) → getD values i 0 < 256)
-    (o y : Run) (b′ recent′ : List ℕ) (of : o .front ≡ p .front) (om : o .machine ≡ p .machine) (oa : o .at ≡ 0)
+module _ (p : Processor) (flags values b : List ℕ) (verdict : takeAnswer (ltb 0 (p .mode)) (p .taken) flags values (length b) ≡ accepted) (bytes : (i : ℕ) → getD values i 0 < 256)
+    (o y : Run) (b′ recent′ : List ℕ) (oe : o ≡ record { front = p .front; machine = p .machine; at = 0 })
     (fd : FeedPost o (p .recent) (p .taken) flags values b y b′) (kp : KeepPost (p .recent) values recent′) where
   abbrev result : Taken
   result =
@@ -214,19 +151,20 @@ module _ (p : Processor) (flags values b : List ℕ) (mode : 1 ≤ p .mode) (ali
   module _ (m azimuth : ℕ) (T : Trace) (is : p ≡ runningProcessor m azimuth T) (w : Within m T) where
     fed : Fed T (record { flags = flags; values = values }) b y b′
     fed =
+        let h = took (ltb 0 (p .mode)) (p .taken) flags values (length b) verdict in
         fd .result T
         (record {
-          front = of ∙ front-of m azimuth T p is;
-          machine = om ∙ machine-of m azimuth T p is;
-          place = oa;
+          front = ap (λ (x : Run). x .front) oe ∙ front-of m azimuth T p is;
+          machine = ap (λ (x : Run). x .machine) oe ∙ machine-of m azimuth T p is;
+          place = ap (λ (x : Run). x .at) oe;
           kept = recent-of m azimuth T p is;
           ticks = sym (taken-of m azimuth T p is);
           alike = w .alike;
-          alike-piece = alike;
+          alike-piece = h .alike;
           bytes = w .bytes;
           bytes-piece = bytes-all values bytes;
-          limit = limit;
-          room = room;
+          limit = h .sweep;
+          room = h .fits;
         })
 
     took-it : result ≡ record { answer = Accepted (length (fresh standard T (record { flags = flags; values = values }))); processor = runningProcessor m azimuth (T ⧺ record { flags = flags; values = values }) }
@@ -242,62 +180,64 @@ module _ (p : Processor) (flags values b : List ℕ) (mode : 1 ≤ p .mode) (ali
         λ i. record { answer = Accepted (c i); processor = record { mode = e1 i; azimuth = e2 i; taken = e3 i; front = e4 i; recent = e5 i; machine = e6 i } }
 
   accepts : (σ : Sweep) → Made σ p → takeVerdict σ (record { flags = flags; values = values }) (length b) ≡ accepted
-  unfolding takeVerdict processorOf n
-  accepts none q = absurd (made-some p mode q)
-  accepts (running m azimuth T) q =
-      ap (λ (t : ℕ). takeAnswer true t flags values (length b)) (sym (taken-of m azimuth T p (q .is)))
-      ∙ answer-8 (record { flags = flags; values = values }) (length b) (p .taken) alike piece limit room false good
+  accepts σ q = take-verdict p (record { flags = flags; values = values }) (length b) σ q ∙ verdict
 
-  pub take-done : TakePost p (record { flags = flags; values = values }) b result b′
+  runs : Made none p → ⊥
+  unfolding takeVerdict takeAnswer
+  runs q = no-verdict 3 (accepts none q)
+
+  pub take-done : (r : Taken) → r ≡ result → TakePost p (record { flags = flags; values = values }) b r b′
   unfolding processorOf
-  take-done =
+  take-done r e =
       record {
-        result = λ σ q. go σ q ∙ sym (ap (λ (x : Verdict). takeAs x σ (record { flags = flags; values = values })) (accepts σ q));
+        result = λ σ q. e ∙ go σ q ∙ sym (ap (λ (x : Verdict). takeAs x σ (record { flags = flags; values = values })) (accepts σ q));
         buffer = λ σ q. wrote σ q ∙ sym (ap (λ (x : Verdict). takeBufferAs x σ (record { flags = flags; values = values }) b) (accepts σ q));
       }
     where
       go : (σ : Sweep) → Made σ p → result ≡ takeAs accepted σ (record { flags = flags; values = values })
-      go none q = absurd (made-some p mode q)
+      go none q = absurd (runs q)
       go (running m azimuth T) q = took-it m azimuth T (q .is) (q .sound)
 
       wrote : (σ : Sweep) → Made σ p → b′ ≡ takeBufferAs accepted σ (record { flags = flags; values = values }) b
-      wrote none q = absurd (made-some p mode q)
+      wrote none q = absurd (runs q)
       wrote (running m azimuth T) q =
           let f = fed m azimuth T (q .is) (q .sound) in
           f .buffer ∙ over-start (records (fresh standard T (record { flags = flags; values = values }))) b
 
 -- ---- closing
 
-abbrev refusedClose : ℕ → Processor → Closed
-refusedClose k q = record { answer = Refused k; totals = noTotals; processor = q }
+close-verdict : (p : Processor) (room : ℕ) (σ : Sweep) → Made σ p → closeVerdict σ room ≡ closeAnswer (ltb 0 (p .mode)) room
+unfolding closeVerdict
+close-verdict p room none m = ap (λ (x : Bool). closeAnswer x room) (sym (mode-none p m))
+close-verdict p room (running mode azimuth T) m = ap (λ (x : Bool). closeAnswer x room) (sym (mode-running p mode azimuth T m))
 
-close-no : (p : Processor) (b : List ℕ) (k : ℕ) → ((σ : Sweep) → Made σ p → closeVerdict σ (length b) ≡ refused k) → ClosePost p b (refusedClose k p) b
-close-no p b k v =
+-- a close that is turned down with k
+pub close-no : (p : Processor) (b : List ℕ) (k : ℕ) (r : Closed) → closeAnswer (ltb 0 (p .mode)) (length b) ≡ refused k
+    → r ≡ record { answer = Refused k; totals = noTotals; processor = p } → ClosePost p b r b
+close-no p b k r e q =
     record {
-      result = λ σ m. ap (refusedClose k) (m .is) ∙ sym (ap (λ (x : Verdict). closeAs x σ) (v σ m));
-      buffer = λ σ m. sym (ap (λ (x : Verdict). closeBufferAs x σ b) (v σ m));
+      result =
+          λ σ m. q ∙ ap (λ (x : Processor). record { answer = Refused k; totals = noTotals; processor = x }) (m .is) ∙ sym (ap (λ (v : Verdict). closeAs v σ) (verdict σ m));
+      buffer = λ σ m. sym (ap (λ (v : Verdict). closeBufferAs v σ b) (verdict σ m));
     }
-
-pub close-3 : (p : Processor) (b : List ℕ) → p .mode ≡ 0 → ClosePost p b (refusedClose 3 p) b
-unfolding closeVerdict closeAnswer
-close-3 p b z = close-no p b 3 go
   where
-    go : (σ : Sweep) → Made σ p → closeVerdict σ (length b) ≡ refused 3
-    go none m = refl
-    go (running mode azimuth T) m = absurd (made-none p z mode azimuth T m)
+    verdict : (σ : Sweep) → Made σ p → closeVerdict σ (length b) ≡ refused k
+    verdict σ m = close-verdict p (length b) σ m ∙ e
 
-pub close-7 : (p : Processor) (b : List ℕ) → 1 ≤ p .mode → length b < 144 → ClosePost p b (refusedClose 7 p) b
-unfolding closeVerdict closeAnswer
-close-7 p b h l = close-no p b 7 go
+-- an accepted close has room
+close-fits : (running : Bool) (room : ℕ) → closeAnswer running room ≡ accepted → 144 ≤ room
+unfolding closeAnswer
+close-fits false room e = absurd (no-verdict 3 e)
+close-fits true room e = ltb-false room 144 (go (ltb room 144) e)
   where
-    go : (σ : Sweep) → Made σ p → closeVerdict σ (length b) ≡ refused 7
-    go none m = absurd (made-some p h m)
-    go (running mode azimuth T) m = rw (lt-ltb (length b) 144 l)
+    go : (x : Bool) → cond x (refused 7) accepted ≡ accepted → x ≡ false
+    go true q = absurd (no-verdict 7 q)
+    go false q = refl
 
-module _ (p : Processor) (b : List ℕ) (mode : 1 ≤ p .mode) (room : 144 ≤ length b) (base : ℕ) (eb : p .taken ≤ 32768 → base ≡ p .taken) (o y : Run) (b′ : List ℕ) (x : Totals)
-    (of : o .front ≡ p .front) (om : o .machine ≡ p .machine) (oa : o .at ≡ 0) (dr : DrainPost o (p .recent) base b y b′) (tx : x ≡ totalsFrom (y .machine .counts)) where
+module _ (p : Processor) (b : List ℕ) (verdict : closeAnswer (ltb 0 (p .mode)) (length b) ≡ accepted) (base : ℕ) (eb : p .taken ≤ 32768 → base ≡ p .taken) (o y : Run) (b′ : List ℕ)
+    (oe : o ≡ record { front = p .front; machine = p .machine; at = 0 }) (dr : DrainPost o (p .recent) base b y b′) where
   abbrev closedResult : Closed
-  closedResult = record { answer = Accepted (y .at / 18); totals = x; processor = idleProcessor }
+  closedResult = record { answer = Accepted (y .at / 18); totals = totalsFrom (y .machine .counts); processor = idleProcessor }
 
   module _ (m azimuth : ℕ) (T : Trace) (is : p ≡ runningProcessor m azimuth T) (w : Within m T) where
     drained : Fed T (silence 448) b y b′
@@ -306,15 +246,15 @@ module _ (p : Processor) (b : List ℕ) (mode : 1 ≤ p .mode) (room : 144 ≤ l
         let c = eb (omega (arith, t, w .short)) in
         dr .result T
         (record {
-          front = of ∙ front-of m azimuth T p is;
-          machine = om ∙ machine-of m azimuth T p is;
-          place = oa;
+          front = ap (λ (x : Run). x .front) oe ∙ front-of m azimuth T p is;
+          machine = ap (λ (x : Run). x .machine) oe ∙ machine-of m azimuth T p is;
+          place = ap (λ (x : Run). x .at) oe;
           kept = recent-of m azimuth T p is;
           ticks = omega (arith, t, c);
           alike = w .alike;
           bytes = w .bytes;
           limit = omega (arith, t, c, w .short);
-          room = room;
+          room = close-fits (ltb 0 (p .mode)) (length b) verdict;
         })
 
     left : fresh standard T (silence 448) ≡ rest standard T
@@ -324,45 +264,37 @@ module _ (p : Processor) (b : List ℕ) (mode : 1 ≤ p .mode) (room : 144 ≤ l
     closed-it =
         let d = drained in
         let c = eighteen (y .at) (length (rest standard T)) (d .place ∙ ap (λ (l : List Reply). 18 * length l) left) in
-        let t = tx ∙ ap (λ (z : Machine). totalsFrom (z .counts)) (d .machine) ∙ totals-law T in
+        let t = ap (λ (z : Machine). totalsFrom (z .counts)) (d .machine) ∙ totals-law T in
         λ i. record { answer = Accepted (c i); totals = t i; processor = idleProcessor }
 
   closes : (σ : Sweep) → Made σ p → closeVerdict σ (length b) ≡ accepted
-  unfolding closeVerdict closeAnswer
-  closes none q = absurd (made-some p mode q)
-  closes (running m azimuth T) q = rw (le-ltb (length b) 144 room)
+  closes σ q = close-verdict p (length b) σ q ∙ verdict
 
-  pub close-done : ClosePost p b closedResult b′
+  runs-still : Made none p → ⊥
+  unfolding closeVerdict closeAnswer
+  runs-still q = no-verdict 3 (closes none q)
+
+  pub close-done : (r : Closed) → r ≡ closedResult → ClosePost p b r b′
   unfolding processorOf
-  close-done =
+  close-done r e =
       record {
-        result = λ σ q. go σ q ∙ sym (ap (λ (v : Verdict). closeAs v σ) (closes σ q));
+        result = λ σ q. e ∙ go σ q ∙ sym (ap (λ (v : Verdict). closeAs v σ) (closes σ q));
         buffer = λ σ q. wrote σ q ∙ sym (ap (λ (v : Verdict). closeBufferAs v σ b) (closes σ q));
       }
     where
       go : (σ : Sweep) → Made σ p → closedResult ≡ closeAs accepted σ
-      go none q = absurd (made-some p mode q)
+      go none q = absurd (runs-still q)
       go (running m azimuth T) q = closed-it m azimuth T (q .is) (q .sound)
 
       wrote : (σ : Sweep) → Made σ p → b′ ≡ closeBufferAs accepted σ b
-      wrote none q = absurd (made-some p mode q)
+      wrote none q = absurd (runs-still q)
       wrote (running m azimuth T) q =
           let d = drained m azimuth T (q .is) (q .sound) in
           d .buffer ∙ over-start (records (fresh standard T (silence 448))) b ∙ ap (λ (l : List Reply). over (records l) b) (left m azimuth T (q .is) (q .sound))
 
--- what a refusing helper returned
-pub take-same : (p : Processor) (flags values b : List ℕ) (k : ℕ) (r : Taken) → r ≡ record { answer = Refused k; processor = p }
-    → TakePost p (record { flags = flags; values = values }) b (record { answer = Refused k; processor = p }) b → TakePost p (record { flags = flags; values = values }) b r b
-take-same p flags values b k r e t = subst (λ (x : Taken). TakePost p (record { flags = flags; values = values }) b x b) (sym e) t
-
-pub close-same : (p : Processor) (b : List ℕ) (k : ℕ) (r : Closed) → r ≡ record { answer = Refused k; totals = noTotals; processor = p }
-    → ClosePost p b (record { answer = Refused k; totals = noTotals; processor = p }) b → ClosePost p b r b
-close-same p b k r e t = subst (λ (x : Closed). ClosePost p b x b) (sym e) t
-
--- the idle processor as the code has it
-pub close-idle : (p : Processor) (b : List ℕ) (a : Answer) (x : Totals) (q : Processor) (b′ : List ℕ) → q ≡ idleProcessor
-    → ClosePost p b (record { answer = a; totals = x; processor = idleProcessor }) b′ → ClosePost p b (record { answer = a; totals = x; processor = q }) b′
-close-idle p b a x q b′ e t = subst (λ (z : Processor). ClosePost p b (record { answer = a; totals = x; processor = z }) b′) (sym e) t
+pub closed-law : (a : Answer) (x : Totals) (q : Processor) (t : Totals) → x ≡ t → q ≡ idleProcessor
+    → _≡_ {A = Closed} (record { answer = a; totals = x; processor = q }) (record { answer = a; totals = t; processor = idleProcessor })
+closed-law a x q t e f = λ i. record { answer = a; totals = e i; processor = f i }
 
 -- more phantoms than replies opened: no calls make such counts
 pub no-replies : (c : Counts) → c .opened < c .phantoms

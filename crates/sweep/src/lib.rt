@@ -1,11 +1,15 @@
 // Opening, taking and closing a sweep. A processor goes in by value and comes back by value; a refusal gives back the one that went in.
 // No operation asks anything of its caller: any processor value, any slices and any buffer are safe.
-ghost use Prim.Native.Nat.{_≤_};
+ghost use Prim.Native.Nat.{_+_, _/_, _≤_};
+ghost use mathlib.Core.List.{[]};
 ghost use mathlib.Core.Path.{_≡_};
-ghost use Rattle.rules.specs.Calls.{takeRoom};
-ghost use Rattle.sweep.specs.State.{idleProcessor};
+ghost use lib.Dec.{ltb};
+ghost use lib.ListN.{length};
+ghost use Rattle.rules.specs.Samples.{sweepLimit};
+ghost use Rattle.rules.specs.Calls.{accepted, takeAnswer, closeAnswer};
+ghost use Rattle.sweep.specs.State.{idleProcessor, runningProcessor};
 ghost use Rattle.sweep.specs.Post.{openOf, noTotals, TakePost, QuietPost, ClosePost, totalsFrom};
-ghost use Rattle.sweep.specs.declared.Answer.the-variants.{Refused};
+ghost use Rattle.sweep.specs.declared.Answer.the-variants.{Accepted, Refused};
 use blocks::Run;
 use blocks::none_due;
 use front::values::keep;
@@ -13,13 +17,15 @@ use front::words::Front;
 use front::words::is_still;
 use front::words::no_front;
 use machine::empty_machine;
-use packing::flags::has_bad;
 use packing::flags::is_bare;
 use pieces::drain;
 use pieces::feed;
 use rules::Counts;
 use rules::Machine;
 use rules::Totals;
+use verdicts::close_refusal;
+use verdicts::open_refusal;
+use verdicts::take_refusal;
 
 // Mode 0: no sweep is open. `recent` holds the values of the last 256 ticks, the newest last.
 pub struct Processor {
@@ -53,13 +59,13 @@ pub struct Closed {
     pub processor: Processor,
 }
 
-// The processor with no sweep open.
-pub fn idle() -> Processor
-    ensures { λ r. ⌜ r ≡ idleProcessor ⌝ }
+// The processor of a sweep with no tick taken.
+fn begun(mode: u8, azimuth: u16) -> Processor
+    ensures { λ r. ⌜ r ≡ runningProcessor mode azimuth (record { flags = []; values = [] }) ⌝ }
 {
     Processor {
-        mode: 0,
-        azimuth: 0,
+        mode,
+        azimuth,
         taken: 0,
         front: no_front(),
         recent: [0u8; 256],
@@ -67,46 +73,32 @@ pub fn idle() -> Processor
     }
 }
 
+// The processor with no sweep open.
+pub fn idle() -> Processor
+    ensures { λ r. ⌜ r ≡ idleProcessor ⌝ }
+{
+    begun(0, 0)
+}
+
+// An answer beside the processor of a sweep with no tick taken.
+fn opened_with(answer: Answer, mode: u8, azimuth: u16) -> Opened
+    ensures { λ r. ⌜ r ≡ record { answer = answer; processor = runningProcessor mode azimuth (record { flags = []; values = [] }) } ⌝ }
+{
+    Opened {
+        answer,
+        processor: begun(mode, azimuth),
+    }
+}
+
 // Opens a sweep. 1: mode not 1 to 3. 2: azimuth above 16,383. The processor of a refused opening is the idle one.
 pub fn open(mode: u8, azimuth: u16) -> Opened
     ensures { λ r. ⌜ r ≡ openOf mode azimuth ⌝ }
 {
-    if mode < 1 {
-        return Opened {
-            answer: Answer::Refused(1),
-            processor: idle(),
-        };
+    let number = open_refusal(mode, azimuth);
+    if number != 0 {
+        return opened_with(Answer::Refused(number), 0, 0);
     }
-    if 3 < mode {
-        return Opened {
-            answer: Answer::Refused(1),
-            processor: idle(),
-        };
-    }
-    if 16383 < azimuth {
-        return Opened {
-            answer: Answer::Refused(2),
-            processor: idle(),
-        };
-    }
-    Opened {
-        answer: Answer::Accepted(0),
-        processor: Processor {
-            mode,
-            azimuth,
-            taken: 0,
-            front: no_front(),
-            recent: [0u8; 256],
-            machine: empty_machine(),
-        },
-    }
-}
-
-// The bytes that a reply buffer must have for n ticks: 72 x ceil(n/206).
-fn room_for(n: u16) -> usize
-    ensures { λ r. ⌜ r ≡ takeRoom n ⌝ }
-{
-    72 * ((n as usize + 205) / 206)
+    opened_with(Answer::Accepted(0), mode, azimuth)
 }
 
 // A take that is turned down.
@@ -119,55 +111,60 @@ fn no_take(p: Processor, number: u8) -> Taken
     }
 }
 
+// What a piece or the zeros past the end go through, at the start of a buffer.
+fn run_of(p: Processor) -> Run
+    ensures { λ r. ⌜ r ≡ record { front = p .front; machine = p .machine; at = 0 } ⌝ }
+{
+    let front = p.front;
+    let machine = p.machine;
+    Run {
+        front,
+        machine,
+        at: 0,
+    }
+}
+
+// The processor after a piece of n ticks.
+fn moved(p: Processor, y: Run, recent: [u8; 256], n: u32) -> Processor
+    requires { ⌜ p .taken + n ≤ sweepLimit ⌝ }
+    ensures { λ r. ⌜ r ≡ record { mode = p .mode; azimuth = p .azimuth; taken = p .taken + n; front = y .front; recent = recent; machine = y .machine } ⌝ }
+{
+    let front = y.front;
+    let machine = y.machine;
+    Processor {
+        mode: p.mode,
+        azimuth: p.azimuth,
+        taken: p.taken + n,
+        front,
+        recent,
+        machine,
+    }
+}
+
+// A take that is carried out.
+fn take_piece(p: Processor, flags: &[u8], values: &[u8], out: &mut [u8]) -> Taken
+    requires { ⌜ takeAnswer (ltb 0 (p .mode)) (p .taken) (now flags) (now values) (length (now out)) ≡ accepted ⌝ }
+    ensures { λ r. ⌜ TakePost p (record { flags = now (flags .entry); values = now (values .entry) }) (now (out .entry)) r (now (out .exit)) ⌝ }
+{
+    let mut recent = p.recent;
+    let y = feed(run_of(p), &recent, p.taken, flags, values, out);
+    keep(&mut recent, values);
+    Taken {
+        answer: Answer::Accepted(y.at / 18),
+        processor: moved(p, y, recent, flags.len() as u32),
+    }
+}
+
 // Takes a piece of the sweep, and hands out the replies that are due. 3: no sweep open. 4: flag and value slices differ in length.
 // 5: piece over 4,096. 6: sweep would pass 32,768. 7: reply buffer under 72 x ceil(n/206) bytes. 8: a bad flag byte.
 pub fn take(p: Processor, flags: &[u8], values: &[u8], out: &mut [u8]) -> Taken
     ensures { λ r. ⌜ TakePost p (record { flags = now (flags .entry); values = now (values .entry) }) (now (out .entry)) r (now (out .exit)) ⌝ }
 {
-    let mode = p.mode;
-    let base = p.taken;
-    let n = flags.len();
-    if mode == 0 {
-        return no_take(p, 3);
+    let number = take_refusal(p.mode, p.taken, flags, values, out.len());
+    if number != 0 {
+        return no_take(p, number);
     }
-    if n != values.len() {
-        return no_take(p, 4);
-    }
-    if 4096 < n {
-        return no_take(p, 5);
-    }
-    if 32768 < base as usize + n {
-        return no_take(p, 6);
-    }
-    if out.len() < room_for(n as u16) {
-        return no_take(p, 7);
-    }
-    if has_bad(flags) {
-        return no_take(p, 8);
-    }
-    let mut recent = p.recent;
-    let front = p.front;
-    let machine = p.machine;
-    let o = Run {
-        front,
-        machine,
-        at: 0,
-    };
-    let y = feed(o, &recent, base, flags, values, out);
-    keep(&mut recent, values);
-    let front2 = y.front;
-    let machine2 = y.machine;
-    Taken {
-        answer: Answer::Accepted(y.at / 18),
-        processor: Processor {
-            mode: p.mode,
-            azimuth: p.azimuth,
-            taken: base + n as u32,
-            front: front2,
-            recent,
-            machine: machine2,
-        },
-    }
+    take_piece(p, flags, values, out)
 }
 
 // Whether these flags, behind `base` ticks, change nothing but the count of ticks and the kept values: no flag is set, no word has a bit, no reply becomes due.
@@ -233,33 +230,37 @@ fn no_close(p: Processor, number: u8) -> Closed
     }
 }
 
+// What a close answers after the zeros past the end.
+fn closed_after(y: Run) -> Closed
+    ensures { λ r. ⌜ r ≡ record { answer = Accepted (y .at / 18); totals = totalsFrom (y .machine .counts); processor = idleProcessor } ⌝ }
+{
+    let end = y.machine;
+    let counts = end.counts;
+    Closed {
+        answer: Answer::Accepted(y.at / 18),
+        totals: totals_of(counts),
+        processor: idle(),
+    }
+}
+
+// A close that is carried out.
+fn close_open(p: Processor, out: &mut [u8]) -> Closed
+    requires { ⌜ closeAnswer (ltb 0 (p .mode)) (length (now out)) ≡ accepted ⌝ }
+    ensures { λ r. ⌜ ClosePost p (now (out .entry)) r (now (out .exit)) ⌝ }
+{
+    let recent = p.recent;
+    let base = p.taken % 32769;
+    let y = drain(run_of(p), &recent, base, out);
+    closed_after(y)
+}
+
 // Closes the sweep: hands out what is left, and returns the totals and the idle processor. 3: no sweep open. 7: reply buffer under 144 bytes.
 pub fn close(p: Processor, out: &mut [u8]) -> Closed
     ensures { λ r. ⌜ ClosePost p (now (out .entry)) r (now (out .exit)) ⌝ }
 {
-    let mode = p.mode;
-    if mode == 0 {
-        return no_close(p, 3);
+    let number = close_refusal(p.mode, out.len());
+    if number != 0 {
+        return no_close(p, number);
     }
-    if out.len() < 144 {
-        return no_close(p, 7);
-    }
-    let base = p.taken % 32769;
-    let recent = p.recent;
-    let front = p.front;
-    let machine = p.machine;
-    let o = Run {
-        front,
-        machine,
-        at: 0,
-    };
-    let y = drain(o, &recent, base, out);
-    let end = y.machine;
-    let counts = end.counts;
-    let totals = totals_of(counts);
-    Closed {
-        answer: Answer::Accepted(y.at / 18),
-        totals,
-        processor: idle(),
-    }
+    close_open(p, out)
 }

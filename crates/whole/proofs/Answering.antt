@@ -1,9 +1,9 @@
 -- The whole call: a refusal writes nothing, and otherwise no refusal number holds.
-use Prim.Native.Nat.{ℕ, zero, suc, _+_, _-_, _*_, _/_, _%_, _^_, _≤_, _<_}
+use Prim.Native.Nat.{ℕ, _-_, _%_, _≤_, _<_}
 use native.Mathlib.Omega.{arith}
-use mathlib.Core.Path.{_≡_, refl, sym, ap, ap₂, _∙_, subst}
+use mathlib.Core.Path.{_≡_, refl, sym, ap, _∙_}
 use mathlib.Core.Bool.{Bool, true, false, not, cond, _&&_, _||_}
-use mathlib.Core.List.{List, [], _∷_, _++_}
+use mathlib.Core.List.{List, []}
 use lib.Dec.{leb, ltb, eqb}
 use lib.ListN.{length, length-append}
 use borrow.Author.Tests.{leb-true, ltb-false, eqb-true, not-false, le-leb, le-ltb}
@@ -13,31 +13,25 @@ use Rattle.rules.specs.Lists.{any, All}
 use Rattle.rules.specs.Samples.{Trace, bad, pieceLimit, sweepLimit}
 use Rattle.rules.specs.Buffers.{over, over-at}
 use Rattle.rules.specs.Machine.{final}
-use Rattle.rules.specs.Records.{records, replies, totals}
+use Rattle.rules.specs.Records.{records, replies}
 use Rattle.rules.specs.Calls.{Answer as Verdict, accepted, refused, openAnswer, handed, rest}
 use Rattle.rules.proofs.Truth.{and-left, and-right}
 use Rattle.rules.proofs.Joining.{handed-rest, records-append, records-length}
 use Rattle.rules.proofs.HandingOut.{rest-most}
-use Rattle.frames.specs.Writing.{totalsBytes}
-use Rattle.sweep.specs.declared.Processor.{Processor}
 use Rattle.sweep.specs.declared.Opened.{Opened}
 use Rattle.sweep.specs.State.{running, runningProcessor, processorOf, Made}
-use Rattle.sweep.specs.Post.{openAs, openOf}
+use Rattle.sweep.specs.Post.{openOf}
 use Rattle.rules.proofs.Answers.{standard-allowed}
 use Rattle.whole.specs.declared.Reached.{Reached}
-use Rattle.whole.specs.Post.{wholeRoom, wholeAnswer, numberOf, answerOf, recordsOf, totalsOf, WholePost, Taken, Takes, TakeAllPost, CloseAtPost}
+use Rattle.verdicts.specs.Whole.{wholeRoom, wholeAnswer}
+use Rattle.whole.specs.Post.{answerOf, recordsOf, totalsOf, WholePost, Taken, TakeAllPost, CloseAtPost}
 use Rattle.whole.proofs.Taking.{or-left, or-right, over-more, handed-most}
 
 -- ---- a refusal
 
-refused-as : (v : Verdict) (n : ℕ) → n ≡ numberOf v → (n ≡ 0 → ⊥) → v ≡ refused n
-refused-as accepted n e z = absurd (z e)
-refused-as (refused k) n e z = ap refused (sym e)
-
-pub whole-refused : (mode azimuth : ℕ) (T : Trace) (piece : ℕ) (b c : List ℕ) (n : ℕ) → n ≡ numberOf (wholeAnswer mode azimuth T piece (length b) (length c)) → (n ≡ 0 → ⊥) → n ≤ 255
+pub whole-refused : (mode azimuth : ℕ) (T : Trace) (piece : ℕ) (b c : List ℕ) (n : ℕ) → wholeAnswer mode azimuth T piece (length b) (length c) ≡ refused n → (n ≡ 0 → ⊥) → n ≤ 255
     → WholePost mode azimuth T piece b c (4294967295 - (n - 1)) b c
-whole-refused mode azimuth T piece b c n e z small =
-    let v : wholeAnswer mode azimuth T piece (length b) (length c) ≡ refused n = refused-as (wholeAnswer mode azimuth T piece (length b) (length c)) n e z in
+whole-refused mode azimuth T piece b c n v z small =
     let m : 4294967295 - (n - 1) ≡ 4294967296 - n = omega (arith, z, small) in
     record {
       result = m ∙ ap (λ (x : Verdict). answerOf x T) (sym v);
@@ -49,10 +43,10 @@ whole-refused mode azimuth T piece b c n e z small =
 
 record Passed (b : Bool) (v : Verdict) : Type 0 where
   not-held : b ≡ false
-  others : 0 ≡ numberOf v
+  others : v ≡ accepted
 
-passed : (b : Bool) (k : ℕ) (v : Verdict) → 0 ≡ numberOf (cond b (refused (suc k)) v) → Passed b v
-passed true k v e = absurd (omega (arith, e))
+passed : (b : Bool) (k : ℕ) (v : Verdict) → cond b (refused k) v ≡ accepted → Passed b v
+passed true k v e = absurd (let z : _≡_ {A = ℕ} 0 1 = cc in omega arith)
 passed false k v e = record { not-held = refl; others = e }
 
 pub record Clear (mode azimuth : ℕ) (T : Trace) (piece : ℕ) (b c : List ℕ) : Type 0 where
@@ -68,14 +62,7 @@ pub record Clear (mode azimuth : ℕ) (T : Trace) (piece : ℕ) (b c : List ℕ)
   pub good : any bad (T .flags) ≡ false
   pub verdict : wholeAnswer mode azimuth T piece (length b) (length c) ≡ accepted
 
-clear-cond : (b : Bool) (k : ℕ) (v : Verdict) → b ≡ false → v ≡ accepted → cond b (refused k) v ≡ accepted
-clear-cond true k v e h = absurd (true≢false′ e)
-  where
-    true≢false′ : true ≡ false → ⊥
-    true≢false′ z = let q : _≡_ {A = ℕ} 1 0 = ap (λ (x : Bool). cond x 1 0) z in omega (arith, q)
-clear-cond false k v e h = h
-
-pub clear : (mode azimuth : ℕ) (T : Trace) (piece : ℕ) (b c : List ℕ) → 0 ≡ numberOf (wholeAnswer mode azimuth T piece (length b) (length c)) → Clear mode azimuth T piece b c
+pub clear : (mode azimuth : ℕ) (T : Trace) (piece : ℕ) (b c : List ℕ) → wholeAnswer mode azimuth T piece (length b) (length c) ≡ accepted → Clear mode azimuth T piece b c
 unfolding wholeAnswer
 clear mode azimuth T piece b c e =
     let n = length (T .flags) in
@@ -92,13 +79,13 @@ clear mode azimuth T piece b c e =
     let v5 = cond h5 (refused 5) v6 in
     let v4 = cond h4 (refused 4) v5 in
     let v2 = cond h2 (refused 2) v4 in
-    let c1 = passed h1 0 v2 e in
-    let c2 = passed h2 1 v4 (c1 .others) in
-    let c4 = passed h4 3 v5 (c2 .others) in
-    let c5 = passed h5 4 v6 (c4 .others) in
-    let c6 = passed h6 5 v7 (c5 .others) in
-    let c7 = passed h7 6 v8 (c6 .others) in
-    let c8 = passed h8 7 accepted (c7 .others) in
+    let c1 = passed h1 1 v2 e in
+    let c2 = passed h2 2 v4 (c1 .others) in
+    let c4 = passed h4 4 v5 (c2 .others) in
+    let c5 = passed h5 5 v6 (c4 .others) in
+    let c6 = passed h6 6 v7 (c5 .others) in
+    let c7 = passed h7 7 v8 (c6 .others) in
+    let c8 = passed h8 8 accepted (c7 .others) in
     let m = not-false (leb 1 mode && leb mode 3) (c1 .not-held) in
     let q = not-false (leb 1 piece && leb piece pieceLimit) (c5 .not-held) in
     record {
@@ -112,9 +99,7 @@ clear mode azimuth T piece b c e =
       room = ltb-false (length b) (wholeRoom n) (or-left (ltb (length b) (wholeRoom n)) (ltb (length c) 12) (c7 .not-held));
       totals-room = ltb-false (length c) 12 (or-right (ltb (length b) (wholeRoom n)) (ltb (length c) 12) (c7 .not-held));
       good = c8 .not-held;
-      verdict =
-          clear-cond h1 1 v2 (c1 .not-held) (clear-cond h2 2 v4 (c2 .not-held) (clear-cond h4 4 v5 (c4 .not-held) (clear-cond h5 5 v6 (c5 .not-held) (clear-cond h6 6 v7 (c6 .not-held)
-          (clear-cond h7 7 v8 (c7 .not-held) (clear-cond h8 8 accepted (c8 .not-held) refl))))));
+      verdict = e;
     }
 
 -- the processor of the opening

@@ -1,5 +1,4 @@
--- Laws of a whole sweep in one call: its refusals, and its pieces one after the other.
-pub mod Refusing
+-- Laws of a whole sweep in one call: its pieces one after the other, and what it answers.
 pub mod Pieces
 pub mod Taking
 pub mod Answering

@@ -1,9 +1,9 @@
 -- A piece whose records land behind those of the pieces before.
-use Prim.Native.Nat.{ℕ, zero, suc, _+_, _-_, _*_, _/_, _≤_, _<_, min}
+use Prim.Native.Nat.{ℕ, _+_, _-_, _*_, _/_, _≤_, min}
 use native.Mathlib.Omega.{arith}
 use mathlib.Core.Path.{_≡_, refl, sym, ap, ap₂, _∙_, subst}
-use mathlib.Core.Bool.{Bool, true, false, true≢false}
-use mathlib.Core.List.{List, [], _∷_, _++_, append-assoc, append-nil}
+use mathlib.Core.Bool.{Bool, true, false}
+use mathlib.Core.List.{List, [], _++_, append-assoc, append-nil}
 use lib.ListN.{length, take, drop, length-append, length-drop, drop-of-length-le}
 use lib.Seq.{drop-drop, take-all}
 use borrow.Rule.Slice.PartMut.{midOf, postOf, putMid}
@@ -13,7 +13,7 @@ use Rattle.rules.specs.Lists.{All}
 use Rattle.rules.specs.Samples.{Trace, _⧺_}
 use Rattle.rules.specs.Buffers.{over, over-at}
 use Rattle.rules.specs.Records.{records}
-use Rattle.rules.specs.Calls.{accepted, takeRoom, fresh}
+use Rattle.rules.specs.Calls.{accepted, fresh}
 use Rattle.rules.proofs.HandingOut.{fresh-most}
 use Rattle.columns.specs.Columns.{Rows, Sized, machineAt}
 use Rattle.sweep.specs.declared.Answer.{Answer}

@@ -1,38 +1,34 @@
 -- All pieces of a trace, one after the other, and the close: the buffer then holds the records of every reply.
-use Prim.Native.Nat.{ℕ, zero, suc, _+_, _-_, _*_, _/_, _%_, _≤_, _<_, min}
+use Prim.Native.Nat.{ℕ, zero, suc, _+_, _-_, _*_, _/_, _≤_, _<_, min}
 use native.Mathlib.Omega.{arith}
 use mathlib.Core.Path.{_≡_, refl, sym, ap, ap₂, _∙_, subst}
-use mathlib.Core.Bool.{Bool, true, false, not, cond, _||_, true≢false}
-use mathlib.Core.List.{List, [], _∷_, _++_, append-assoc, append-nil}
-use lib.Dec.{leb, ltb, eqb}
+use mathlib.Core.Bool.{Bool, true, false, _||_, true≢false}
+use mathlib.Core.List.{List, [], _∷_, _++_, append-nil}
 use lib.ListN.{length, getD, take, drop, length-append, length-drop}
-use lib.Seq.{take-add, take-length, length-take-le, take-all}
+use lib.Seq.{take-add, length-take-le, take-all}
 use borrow.Author.Tests.{eq-eqb, le-ltb}
-use borrow.Rule.Slice.PartMut.{midOf, postOf, putMid}
+use borrow.Rule.Slice.PartMut.{midOf, putMid}
 use Rattle.rules.specs.declared.Reply.{Reply}
 use Rattle.rules.specs.declared.Totals.{Totals}
 use Rattle.rules.specs.Settings.{standard}
 use Rattle.rules.specs.Lists.{any, All}
 use Rattle.rules.specs.Samples.{Trace, _⧺_, bad, pieceLimit, sweepLimit}
 use Rattle.rules.specs.Buffers.{over, over-at}
-use Rattle.rules.specs.Edges.{edgeAt}
-use Rattle.rules.specs.Machine.{after, final}
-use Rattle.rules.specs.Records.{records, replies, totals}
-use Rattle.rules.specs.Calls.{Answer as Verdict, accepted, refused, takeAnswer, closeAnswer, takeRoom, closeRoom, handed, fresh, rest}
+use Rattle.rules.specs.Machine.{after}
+use Rattle.rules.specs.Records.{records, totals}
+use Rattle.rules.specs.Calls.{Answer as Verdict, accepted, takeAnswer, closeAnswer, takeRoom, closeRoom, handed, fresh, rest}
 use Rattle.rules.proofs.Buffers.{over-at-more}
-use Rattle.rules.proofs.Joining.{handed-fresh, handed-rest, handed-done, records-append, records-length}
+use Rattle.rules.proofs.Joining.{handed-fresh, handed-done, records-append, records-length}
 use Rattle.rules.proofs.HandingOut.{fresh-most, rest-most}
 use Rattle.frames.specs.Writing.{totalsBytes}
 use lib.Ieee.{Float}
-use Rattle.rules.specs.declared.Places.{Places}
 use Rattle.columns.specs.Columns.{Rows, Sized, placesOf}
 use Rattle.lanes.specs.Post.{LoadPost}
-use Rattle.sweep.specs.declared.Answer.{Answer}
 use Rattle.sweep.specs.declared.Answer.the-variants.{Accepted, Refused}
 use Rattle.sweep.specs.declared.Processor.{Processor}
 use Rattle.sweep.specs.declared.Closed.{Closed}
 use Rattle.blocks.specs.declared.Stand.{Stand}
-use Rattle.sweep.specs.State.{Sweep, none, running, runningProcessor, processorOf, Within, Made}
+use Rattle.sweep.specs.State.{running, runningProcessor, processorOf, Made}
 use Rattle.sweep.specs.Post.{takeVerdict, closeVerdict, closeAs, closeBufferAs, QuietPost, ClosePost}
 use Rattle.pieces.specs.Feeding.{ColumnsPost}
 use Rattle.front.specs.Post.{KeepPost}
@@ -40,7 +36,7 @@ use Rattle.rules.proofs.Answers.{standard-allowed}
 use Rattle.sweep.proofs.Operations.{mode-of, azimuth-of, front-of, recent-of, machine-of}
 use Rattle.blocks.proofs.Working.{loaded}
 use Rattle.whole.specs.declared.Reached.{Reached}
-use Rattle.whole.specs.Post.{wholeRoom, Taken, Takes, TakeAllPost, CloseAtPost}
+use Rattle.whole.specs.Post.{arrivedAt, Taken, Takes, TakeAllPost, CloseAtPost}
 use Rattle.whole.proofs.Pieces.{isRefused, countIn, over-rest, mid-is, post-is, processorAt, Reaches, TakesAt, q, piece-fed, piece-quiet}
 
 -- ---- lists
@@ -251,20 +247,16 @@ module _ (p : Processor) (T : Trace) (piece : ℕ) (b₀ : List ℕ) (alike : le
       takings-quiet r quiet is =
           takings-next x y kept at b (h .start) (piece-quiet p x y recent i (between i end T) at b inside-b bytes-P end ticks kept keeps alike-P r quiet is) refl
 
-  pub takings-end : (x : Rows) (y : Stand) (recent : List ℕ) (at i n : ℕ) (b : List ℕ) {g : Places} → length (T .flags) ≤ i → n ≡ length (T .flags) → g ≡ placesOf x
-      → Takings p T piece b₀ x y recent at i b
-      → TakeAllPost p T piece b₀
-      (record { processor = record { mode = p .mode; azimuth = p .azimuth; taken = n; front = y .front; recent = recent; machine = record { places = g; counts = y .counts } }; at = at }) b
-  takings-end x y recent at i n b {g} l k is h =
+  pub takings-end : (x : Rows) (y : Stand) (recent : List ℕ) (at i n : ℕ) (b : List ℕ) (r : Reached) → length (T .flags) ≤ i → n ≡ length (T .flags)
+      → r ≡ arrivedAt p y (placesOf x) recent n at → Takings p T piece b₀ x y recent at i b → TakeAllPost p T piece b₀ r b
+  takings-end x y recent at i n b r l k is h =
+      let m : n ≡ i = omega (arith, h .reach) in
+      let q : r ≡ record { processor = processorAt p x y recent i; at = at } = is ∙ ap (λ (z : ℕ). arrivedAt p y (placesOf x) recent z at) m in
       record {
-        inside = h .inside;
+        inside = omega (arith, h .inside, ap (λ (z : Reached). z .at) q);
         result = λ mode azimuth e t.
-            let m : i ≡ n = omega (arith, h .reach) in
-            let q : record { mode = p .mode; azimuth = p .azimuth; taken = n; front = y .front; recent = recent; machine = record { places = g; counts = y .counts } } ≡ processorAt p x y recent i =
-            λ j. record { mode = p .mode; azimuth = p .azimuth; taken = sym m j; front = y .front; recent = recent; machine = record { places = is j; counts = y .counts } } in
-            subst (λ (X : Trace). Taken mode azimuth X b₀ (record { processor = record { mode = p .mode; azimuth = p .azimuth; taken = n; front = y .front; recent = recent; machine = record { places = g; counts = y .counts } }; at = at }) b)
-            (up-all T i (omega (arith, h .reach)) alike)
-            (subst (λ (r : Processor). Taken mode azimuth (upTo i T) b₀ (record { processor = r; at = at }) b) (sym q) (h .result mode azimuth e t .0));
+            subst (λ (X : Trace). Taken mode azimuth X b₀ r b) (up-all T i (omega (arith, h .reach)) alike)
+            (subst (λ (z : Reached). Taken mode azimuth (upTo i T) b₀ z b) (sym q) (h .result mode azimuth e t .0));
       }
 
 -- ---- the close

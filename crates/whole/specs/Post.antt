@@ -1,46 +1,23 @@
 -- What a whole sweep in one call returns, and what it leaves in the two buffers.
 use Prim.Native.Nat.{ℕ, _+_, _-_, _*_, _/_, _^_, _≤_}
-use mathlib.Core.Bool.{false, not, _&&_, _||_}
-use mathlib.Core.List.{List, [], _∷_}
+use mathlib.Core.Bool.{false}
+use mathlib.Core.List.{List, []}
 use mathlib.Core.Path.{_≡_}
-use lib.Dec.{leb, ltb, eqb}
-use lib.ListN.{length, drop}
-use Rattle.rules.specs.declared.Totals.{Totals}
+use lib.ListN.{length}
 use Rattle.rules.specs.Settings.{standard}
 use Rattle.rules.specs.Lists.{any, All}
-use Rattle.rules.specs.Samples.{Trace, _⧺_, bad, pieceLimit, sweepLimit}
+use Rattle.rules.specs.Samples.{Trace, bad, pieceLimit, sweepLimit}
 use Rattle.rules.specs.Buffers.{over, over-at}
 use Rattle.rules.specs.Machine.{final}
 use Rattle.rules.specs.Records.{records, replies, totals}
-use Rattle.rules.specs.Calls.{Answer as Verdict, accepted, refused, firstOf, takeRoom, closeRoom, handed, fresh, rest}
+use Rattle.rules.specs.Calls.{Answer as Verdict, accepted, refused, handed, rest}
 use Rattle.frames.specs.Writing.{totalsBytes}
 use Rattle.sweep.specs.declared.Processor.{Processor}
-use Rattle.blocks.specs.declared.Run.{Run}
 use Rattle.sweep.specs.State.{running, runningProcessor, Made}
-use Rattle.pieces.specs.Feeding.{Begins}
+use Rattle.rules.specs.declared.Places.{Places}
+use Rattle.blocks.specs.declared.Stand.{Stand}
+use Rattle.verdicts.specs.Whole.{wholeRoom, wholeAnswer}
 use Rattle.whole.specs.declared.Reached.{Reached}
-
--- room for what the pieces hand out, each into the rest of the buffer, and for what is left at the close
-abbrev pub wholeRoom : ℕ → ℕ
-wholeRoom n = takeRoom n + closeRoom
-
--- the refusals of opening and taking, in their order; 5 is for a length of pieces that no take accepts, or 0
-unfoldable pub wholeAnswer : ℕ → ℕ → Trace → ℕ → ℕ → ℕ → Verdict
-wholeAnswer mode azimuth T piece room totalsRoom =
-    firstOf
-    (record { number = 1; holds = not (leb 1 mode && leb mode 3) }
-    ∷ record { number = 2; holds = ltb 16383 azimuth }
-    ∷ record { number = 4; holds = not (eqb (length (T .flags)) (length (T .values))) }
-    ∷ record { number = 5; holds = not (leb 1 piece && leb piece pieceLimit) }
-    ∷ record { number = 6; holds = ltb sweepLimit (length (T .flags)) }
-    ∷ record { number = 7; holds = ltb room (wholeRoom (length (T .flags))) || ltb totalsRoom 12 }
-    ∷ record { number = 8; holds = any bad (T .flags) }
-    ∷ [])
-
--- the number of a refusal, 0 for none
-abbrev pub numberOf : Verdict → ℕ
-numberOf accepted = 0
-numberOf (refused k) = k
 
 -- the count of replies, or minus the number in 32 bits
 abbrev pub answerOf : Verdict → Trace → ℕ
@@ -61,6 +38,14 @@ pub record WholePost (mode azimuth : ℕ) (T : Trace) (piece : ℕ) (b c : List 
   pub totalBytes : c′ ≡ totalsOf (wholeAnswer mode azimuth T piece (length b) (length c)) T c
 
 -- ---- all pieces
+
+-- what p has become after n ticks
+abbrev pub arrivedAt : Processor → Stand → Places → List ℕ → ℕ → ℕ → Reached
+arrivedAt p y places recent n at =
+    record {
+      processor = record { mode = p .mode; azimuth = p .azimuth; taken = n; front = y .front; recent = recent; machine = record { places = places; counts = y .counts } };
+      at = at;
+    }
 
 -- all of T, from the processor of its opening on; what is due is at the start of the buffer
 pub record Taken (mode azimuth : ℕ) (T : Trace) (b : List ℕ) (r : Reached) (b′ : List ℕ) : Type 0 where

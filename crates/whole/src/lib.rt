@@ -2,7 +2,10 @@
 ghost use Prim.Native.Nat.{_+_, _-_, _*_, _/_, _≤_, _<_, min};
 ghost use mathlib.Core.Path.{_≡_};
 ghost use lib.ListN.{length};
-ghost use Rattle.whole.specs.Post.{wholeRoom, wholeAnswer, numberOf, TakeAllPost, CloseAtPost, WholePost};
+ghost use Rattle.verdicts.specs.Whole.{wholeAnswer};
+ghost use Rattle.whole.specs.Post.{arrivedAt, TakeAllPost, CloseAtPost, WholePost};
+ghost use Rattle.rules.specs.Calls.{accepted};
+ghost use Rattle.columns.specs.Columns.{placesIn};
 ghost use Rattle.rules.specs.Buffers.{over};
 ghost use Rattle.frames.specs.Writing.{totalsBytes};
 use blocks::Stand;
@@ -10,7 +13,6 @@ use columns::rows::places_of;
 use frames::totals_bytes;
 use front::values::keep;
 use lanes::load;
-use packing::flags::has_bad;
 use pieces::feed_columns;
 use rules::Machine;
 use rules::Totals;
@@ -19,6 +21,7 @@ use sweep::Processor;
 use sweep::close;
 use sweep::is_quiet;
 use sweep::open;
+use verdicts::whole::whole_refusal;
 
 // The processor after some pieces, and the place in the buffer behind the last record.
 pub struct Reached {
@@ -35,66 +38,42 @@ fn least(n: usize, most: usize) -> usize
     most
 }
 
-// The bytes that the reply buffer must have for n ticks.
-fn room_for(n: usize) -> usize
-    requires { ⌜ n ≤ 32768 ⌝ }
-    ensures { λ r. ⌜ r ≡ wholeRoom n ⌝ }
-{
-    72 * ((n + 205) / 206) + 144
-}
-
-// The first refusal number that holds, or 0.
-fn refusal(
-    mode: u8,
-    azimuth: u16,
-    flags: &[u8],
-    values: &[u8],
-    piece: usize,
-    out: &[u8],
-    totals: &[u8],
-) -> u8
-    ensures { λ r. ⌜ r ≡ numberOf (wholeAnswer mode azimuth (record { flags = now (flags .entry); values = now (values .entry) }) piece (length (now (out .entry))) (length (now (totals .entry)))) ⌝ }
-{
-    if mode < 1 {
-        return 1;
-    }
-    if 3 < mode {
-        return 1;
-    }
-    if 16383 < azimuth {
-        return 2;
-    }
-    let n = flags.len();
-    if n != values.len() {
-        return 4;
-    }
-    if piece < 1 {
-        return 5;
-    }
-    if 4096 < piece {
-        return 5;
-    }
-    if 32768 < n {
-        return 6;
-    }
-    if out.len() < room_for(n) {
-        return 7;
-    }
-    if totals.len() < 12 {
-        return 7;
-    }
-    if has_bad(flags) {
-        return 8;
-    }
-    0
-}
-
 // The place in a buffer of n bytes behind the records up to `at` and those that `more` bytes hold.
 fn behind(at: usize, more: usize, n: usize) -> usize
     requires { ⌜ at ≤ n ⌝ }
     ensures { λ r. ⌜ r ≡ at + 18 * min (more / 18) ((n - at) / 18) ⌝ }
 {
     at + 18 * least(more / 18, (n - at) / 18)
+}
+
+// The processor after n ticks, with its places from the columns, and the place in the buffer behind the last record.
+fn arrived(
+    p: Processor,
+    run: Stand,
+    f1: &[u32; 4],
+    marks: &[u16; 4],
+    row: &[u16; 24],
+    level: &[f64; 4],
+    recent: [u8; 256],
+    n: u32,
+    at: usize,
+) -> Reached
+    ensures { λ r. ⌜ r ≡ arrivedAt p run (placesIn (now (f1 .entry)) (now (marks .entry)) (now (row .entry)) (now (level .entry))) recent n at ⌝ }
+{
+    let places = places_of(f1, marks, row, level);
+    let front = run.front;
+    let counts = run.counts;
+    Reached {
+        processor: Processor {
+            mode: p.mode,
+            azimuth: p.azimuth,
+            taken: n,
+            front,
+            recent,
+            machine: Machine { places, counts },
+        },
+        at,
+    }
 }
 
 // All pieces, of `piece` ticks each but for the last. The places stand as columns all the way; a piece that finds nothing is taken in place.
@@ -147,23 +126,7 @@ fn take_all(p: Processor, flags: &[u8], values: &[u8], piece: usize, out: &mut [
         run.at = 0;
         i = end;
     }
-    let places = places_of(&f1, &marks, &row, &level);
-    let last = run.front;
-    let after = run.counts;
-    Reached {
-        processor: Processor {
-            mode: p.mode,
-            azimuth: p.azimuth,
-            taken: n as u32,
-            front: last,
-            recent,
-            machine: Machine {
-                places,
-                counts: after,
-            },
-        },
-        at,
-    }
+    arrived(p, run, &f1, &marks, &row, &level, recent, n as u32, at)
 }
 
 // The close, whose records land behind those of the pieces, and the totals. Answers how many records there are in all.
@@ -194,6 +157,28 @@ fn put_totals(t: Totals, totals: &mut [u8])
     }
 }
 
+// A whole sweep that nothing turns down. Answers how many records there are.
+fn swept(
+    mode: u8,
+    azimuth: u16,
+    flags: &[u8],
+    values: &[u8],
+    piece: usize,
+    out: &mut [u8],
+    totals: &mut [u8],
+) -> u32
+    requires { ⌜ wholeAnswer mode azimuth (record { flags = now flags; values = now values }) piece (length (now out)) (length (now totals)) ≡ accepted ⌝ }
+    ensures { λ r. ⌜ WholePost mode azimuth (record { flags = now (flags .entry); values = now (values .entry) }) piece (now (out .entry)) (now (totals .entry)) r (now (out .exit)) (now (totals .exit)) ⌝ }
+{
+    let o = open(mode, azimuth);
+    let p = o.processor;
+    let t = take_all(p, flags, values, piece, out);
+    let at = t.at;
+    let q = t.processor;
+    let count = close_at(q, out, at, totals);
+    (count % 65536) as u32
+}
+
 // Opens a sweep, takes it in pieces of `piece` ticks, and closes it. The records of all replies land at the start of `out`, the totals at the start
 // of `totals`, and the answer is the count of records; or, read as an int32_t,
 // minus the number of a refusal, and nothing is written. 1: mode not 1 to 3. 2: azimuth
@@ -211,15 +196,9 @@ pub extern "C" fn whole_sweep(
 ) -> u32
     ensures { λ r. ⌜ WholePost mode azimuth (record { flags = now (flags .entry); values = now (values .entry) }) piece (now (out .entry)) (now (totals .entry)) r (now (out .exit)) (now (totals .exit)) ⌝ }
 {
-    let number = refusal(mode, azimuth, flags, values, piece, out, totals);
+    let number = whole_refusal(mode, azimuth, flags, values, piece, out, totals);
     if number != 0 {
         return 4294967295 - (number as u32 - 1);
     }
-    let o = open(mode, azimuth);
-    let p = o.processor;
-    let t = take_all(p, flags, values, piece, out);
-    let at = t.at;
-    let q = t.processor;
-    let count = close_at(q, out, at, totals);
-    (count % 65536) as u32
+    swept(mode, azimuth, flags, values, piece, out, totals)
 }

@@ -1,0 +1,16 @@
+use Rattle.sweep.proofs.Opening.{begun-law}
+use borrow.Author.Needs.{needs}
+use Rattle.sweep.proofs.begun.Statement.{statement}
+use Rattle.sweep.proofs.begun.Tie as tie
+
+no-front-requires : tie.Need-no-front-requires
+no-front-requires c κs = search needs
+
+empty-machine-requires : tie.Need-empty-machine-requires
+empty-machine-requires c κs = search needs
+
+returns : tie.Need-returns
+returns c = begun-law _ _ (c .before .no-front .ensures) (c .empty-machine .ensures) (c .before .before .args .mode) (c .before .before .args .azimuth)
+
+pub begun-spec : {M : Type 1} → statement M
+begun-spec = tie.close (tie.spec no-front-requires empty-machine-requires returns)

@@ -1,0 +1,18 @@
+use Rattle.verdicts.proofs.Trying.{open-low, open-high, open-far, open-none}
+use Rattle.verdicts.proofs.open_refusal.Statement.{statement}
+use Rattle.verdicts.proofs.open_refusal.Tie as tie
+
+returns : tie.Need-returns
+returns c = open-low (c .before .args .mode) (c .before .args .azimuth) (c .if1 .taken)
+
+returns-2 : tie.Need-returns-2
+returns-2 c = open-high (c .before .before .args .mode) (c .before .before .args .azimuth) (c .before .if1 .left) (c .if2 .taken)
+
+returns-3 : tie.Need-returns-3
+returns-3 c = open-far (c .before .before .before .args .mode) (c .before .before .before .args .azimuth) (c .before .before .if1 .left) (c .before .if2 .left) (c .if3 .taken)
+
+returns-4 : tie.Need-returns-4
+returns-4 c = open-none (c .before .before .before .args .mode) (c .before .before .before .args .azimuth) (c .before .before .if1 .left) (c .before .if2 .left) (c .if3 .left)
+
+pub open-refusal-spec : {M : Type 1} → statement M
+open-refusal-spec = tie.close (tie.spec returns returns-2 returns-3 returns-4)
