@@ -92,6 +92,7 @@ fn later(s: Span) -> u64
     !(s.at168 | s.at167)
 }
 
+// Bit i of a word, as a number.
 fn digit(x: u64, i: u32) -> u32
     requires { ⌜ i < 64 ⌝ }
     ensures { λ r. ⌜ r ≡ cond (bit x i) 1 0 ⌝ }

@@ -56,17 +56,6 @@ module _ (s j : ℕ) where
   fresh-some : j < 15 → bit (32767 - s % 32768) j ≡ not (digit j s)
   fresh-some h = bit-not (s % 32768) 15 j (omega arith) h ∙ ap not (bit-mod s 15 j h ∙ bit-digit s j)
 
-  pub fresh-most : j < 16 → bitAnd ((1 * 2 ^ j) % 2 ^ 16) (32767 - s % 32768) ≤ 16384
-  fresh-most h = go (bit (32767 - s % 32768) j) refl (leb j 14) refl
-    where
-      go : (b : Bool) → bit (32767 - s % 32768) j ≡ b → (c : Bool) → leb j 14 ≡ c → bitAnd ((1 * 2 ^ j) % 2 ^ 16) (32767 - s % 32768) ≤ 16384
-      go false e c f = let z : bitAnd ((1 * 2 ^ j) % 2 ^ 16) (32767 - s % 32768) ≡ 0 = fresh-value h ∙ ap (λ (y : Bool). cond y (2 ^ j) 0) e in omega (arith, z)
-      go true e true f =
-          let z : bitAnd ((1 * 2 ^ j) % 2 ^ 16) (32767 - s % 32768) ≡ 2 ^ j = fresh-value h ∙ ap (λ (y : Bool). cond y (2 ^ j) 0) e in
-          let l : 2 ^ j ≤ 16384 = pow-mono {i = j} {j = 14} (leb-true j 14 f) in
-          omega (arith, z, l)
-      go true e false f = absurd (impossible (sym e ∙ fresh-none (omega (arith, leb-false j 14 f))))
-
 -- ---- the position's own bit
 
 -- where bit j is that of position k: position 0 has bit 15

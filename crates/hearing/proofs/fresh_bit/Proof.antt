@@ -1,5 +1,4 @@
-use Rattle.hearing.proofs.FreshBits.{placeOf, fresh-law, fresh-most}
-use native.Mathlib.Omega.{arith}
+use Rattle.hearing.proofs.FreshBits.{fresh-law}
 use borrow.Author.Needs.{needs}
 use Rattle.hearing.proofs.fresh_bit.Statement.{statement}
 use Rattle.hearing.proofs.fresh_bit.Tie as tie
@@ -23,10 +22,7 @@ sub-result : tie.Need-sub-result
 sub-result c = search needs
 
 returns : tie.Need-returns
-returns c = (
-  λ h. fresh-law (c .args .settled) (c .args .k) h,
-  fresh-most (c .args .settled) (placeOf (c .args .k)) (omega arith),
-)
+returns c = λ h. fresh-law (c .args .settled) (c .args .k) h
 
 pub fresh-bit-spec : {M : Type 1} → statement M
 fresh-bit-spec = tie.close (tie.spec add-j mul-j sub-j cast-result shl-result sub-result returns)

@@ -64,7 +64,7 @@ put-word-requires c κs = search needs
 
 -- src/lib.rt:66:9
 returns : tie.Need-returns
-returns c = heard-unsure (c .before .before .before .before .before .before .before .before .before .before .before .before .before .before .args .f1 .now) (c .before .before .before .before .before .before .before .before .before .before .before .before .before .before .args .row .now) (c .before .before .before .before .before .before .before .before .before .before .before .before .before .before .args .level .now) (c .before .before .before .before .before .before .before .before .before .before .before .before .before .before .args .j) (c .before .before .before .before .before .before .before .before .before .before .before .before .before .before .args .e) (c .before .before .before .before .before .before .before .before .before .before .before .before .before .before .args .own) (c .before .before .before .before .before .before .before .before .before .before .before .before .before .before .args .other) _ (c .before .before .before .before .before .before .before .before .before .before .before .covering .ensures) _ (c .before .before .before .before .before .before .before .before .before .word-at .ensures) _ (c .before .before .before .before .before .before .before .before .fresh-bit .ensures .0) _ _ (c .before .before .before .before .before .before .before .code-of .ensures) (c .before .before .before .before .before .before .sure-of .ensures) _ _ (c .before .before .before .before .before .pick .ensures) (c .before .before .before .before .pick2 .ensures) _ (c .before .before .before .settle-bit .ensures) _ (c .before .put-word .ensures) (c .if1 .taken)
+returns c = heard-unsure (c .before .before .before .before .before .before .before .before .before .before .before .before .before .before .args .f1 .now) (c .before .before .before .before .before .before .before .before .before .before .before .before .before .before .args .row .now) (c .before .before .before .before .before .before .before .before .before .before .before .before .before .before .args .level .now) (c .before .before .before .before .before .before .before .before .before .before .before .before .before .before .args .j) (c .before .before .before .before .before .before .before .before .before .before .before .before .before .before .args .e) (c .before .before .before .before .before .before .before .before .before .before .before .before .before .before .args .own) (c .before .before .before .before .before .before .before .before .before .before .before .before .before .before .args .other) _ (c .before .before .before .before .before .before .before .before .before .before .before .covering .ensures) _ (c .before .before .before .before .before .before .before .before .before .word-at .ensures) _ (c .before .before .before .before .before .before .before .before .fresh-bit .ensures) _ _ (c .before .before .before .before .before .before .before .code-of .ensures) (c .before .before .before .before .before .before .sure-of .ensures) _ _ (c .before .before .before .before .before .pick .ensures) (c .before .before .before .before .pick2 .ensures) _ (c .before .before .before .settle-bit .ensures) _ (c .before .put-word .ensures) (c .if1 .taken)
 
 -- src/lib.rt:68:5
 take-in-requires : tie.Need-take-in-requires
@@ -72,7 +72,7 @@ take-in-requires c κs = search needs
 
 -- src/lib.rt:44:1
 returns-2 : tie.Need-returns-2
-returns-2 c = heard-sure (c .before .before .before .before .before .before .before .before .before .before .before .before .before .before .before .before .before .args .f1 .now) (c .before .before .before .before .before .before .before .before .before .before .before .before .before .before .before .before .before .args .row .now) (c .before .before .before .before .before .before .before .before .before .before .before .before .before .before .before .before .before .args .level .now) (c .before .before .before .before .before .before .before .before .before .before .before .before .before .before .before .before .before .args .j) (c .before .before .before .before .before .before .before .before .before .before .before .before .before .before .before .before .before .args .e) (c .before .before .before .before .before .before .before .before .before .before .before .before .before .before .before .before .before .args .own) (c .before .before .before .before .before .before .before .before .before .before .before .before .before .before .before .before .before .args .other) _ (c .before .before .before .before .before .before .before .before .before .before .before .before .before .before .covering .ensures) _ (c .before .before .before .before .before .before .before .before .before .before .before .before .word-at .ensures) _ (c .before .before .before .before .before .before .before .before .before .before .before .fresh-bit .ensures .0) _ _ (c .before .before .before .before .before .before .before .before .before .before .code-of .ensures) (c .before .before .before .before .before .before .before .before .before .sure-of .ensures) _ _ (c .before .before .before .before .before .before .before .before .pick .ensures) (c .before .before .before .before .before .before .before .pick2 .ensures) _ (c .before .before .before .before .before .before .settle-bit .ensures) _ (c .before .before .before .before .put-word .ensures) (c .before .before .before .if1 .left) _ _ (c .take-in .ensures)
+returns-2 c = heard-sure (c .before .before .before .before .before .before .before .before .before .before .before .before .before .before .before .before .before .args .f1 .now) (c .before .before .before .before .before .before .before .before .before .before .before .before .before .before .before .before .before .args .row .now) (c .before .before .before .before .before .before .before .before .before .before .before .before .before .before .before .before .before .args .level .now) (c .before .before .before .before .before .before .before .before .before .before .before .before .before .before .before .before .before .args .j) (c .before .before .before .before .before .before .before .before .before .before .before .before .before .before .before .before .before .args .e) (c .before .before .before .before .before .before .before .before .before .before .before .before .before .before .before .before .before .args .own) (c .before .before .before .before .before .before .before .before .before .before .before .before .before .before .before .before .before .args .other) _ (c .before .before .before .before .before .before .before .before .before .before .before .before .before .before .covering .ensures) _ (c .before .before .before .before .before .before .before .before .before .before .before .before .word-at .ensures) _ (c .before .before .before .before .before .before .before .before .before .before .before .fresh-bit .ensures) _ _ (c .before .before .before .before .before .before .before .before .before .before .code-of .ensures) (c .before .before .before .before .before .before .before .before .before .sure-of .ensures) _ _ (c .before .before .before .before .before .before .before .before .pick .ensures) (c .before .before .before .before .before .before .before .pick2 .ensures) _ (c .before .before .before .before .before .before .settle-bit .ensures) _ (c .before .before .before .before .put-word .ensures) (c .before .before .before .if1 .left) _ _ (c .take-in .ensures)
 
 pub hear-spec : {M : Type 1} → statement M
 hear-spec =
