@@ -194,12 +194,10 @@ fn show_cutting(cut: usize, disturbed: bool) {
 
 // ---- cutting
 
-// Takes the samples a to b of the recording, and prints the records handed out.
-fn take_part(p: Processor, flags: &[u8], values: &[u8], a: usize, b: usize) -> Processor
-    requires { ⌜ (a ≤ b) × (b ≤ length (now flags)) × (b ≤ length (now values)) ⌝ }
-{
+// Takes a piece, and prints the records handed out.
+fn take_part(p: Processor, flags: &[u8], values: &[u8]) -> Processor {
     let mut out = [0u8; 144];
-    let t = sweep::take(p, &flags[a..b], &values[a..b], &mut out);
+    let t = sweep::take(p, flags, values, &mut out);
     let answer = t.answer;
     show(answer, &out);
     t.processor
@@ -211,16 +209,21 @@ fn take_unseen(p: Processor, flags: &[u8], values: &[u8], out: &mut [u8]) -> Pro
     t.processor
 }
 
-// An empty piece; then the samples a to b with too small a buffer, and with no values. None of it changes what is printed.
-fn disturb(p: Processor, flags: &[u8], values: &[u8], a: usize, b: usize) -> Processor
-    requires { ⌜ (a < b) × (b ≤ length (now flags)) × (b ≤ length (now values)) ⌝ }
-{
+// An empty piece; then a piece with too small a buffer, and with no values. None of it changes what is printed.
+fn disturb(p: Processor, flags: &[u8], values: &[u8], none: &[u8]) -> Processor {
     let mut room = [0u8; 144];
     let mut small = [0u8; 71];
-    let mut spare = [0u8; 144];
-    let empty = take_unseen(p, &flags[a..a], &values[b..b], &mut room);
-    let cramped = take_unseen(empty, &flags[a..b], &values[a..b], &mut small);
-    take_unseen(cramped, &flags[a..b], &values[b..b], &mut spare)
+    let empty = take_unseen(p, none, none, &mut room);
+    let cramped = take_unseen(empty, flags, values, &mut small);
+    take_unseen(cramped, flags, none, &mut room)
+}
+
+// A piece after a disturbance, or without.
+fn step(p: Processor, flags: &[u8], values: &[u8], disturbed: bool) -> Processor {
+    if disturbed {
+        return take_part(disturb(p, flags, values, &values[..0]), flags, values);
+    }
+    take_part(p, flags, values)
 }
 
 fn close(p: Processor) {
@@ -250,10 +253,7 @@ fn run(flags: &[u8], values: &[u8], n: usize, cut: usize, disturbed: bool)
     let end = START + n;
     while a < end {
         let b = a + piece(cut, end - a);
-        if disturbed {
-            p = disturb(p, flags, values, a, b);
-        }
-        p = take_part(p, flags, values, a, b);
+        p = step(p, &flags[a..b], &values[a..b], disturbed);
         a = b;
     }
     close(p);

@@ -28,11 +28,26 @@ piece-requires c κs = search needs
 add-b : tie.Need-add-b Inv-loop μ-loop
 add-b c = search needs
 
-disturb-requires : tie.Need-disturb-requires Inv-loop μ-loop
-disturb-requires c κs = search needs
+sub-step : tie.Need-sub-step Inv-loop μ-loop
+sub-step c = search needs
 
-take-part-requires : tie.Need-take-part-requires Inv-loop μ-loop
-take-part-requires c κs = search needs
+part-step-start : tie.Need-part-step-start Inv-loop μ-loop
+part-step-start c = search needs
+
+part-step-end : tie.Need-part-step-end Inv-loop μ-loop
+part-step-end c = search needs
+
+sub-step-2 : tie.Need-sub-step-2 Inv-loop μ-loop
+sub-step-2 c = search needs
+
+part-step-start-2 : tie.Need-part-step-start-2 Inv-loop μ-loop
+part-step-start-2 c = search needs
+
+part-step-end-2 : tie.Need-part-step-end-2 Inv-loop μ-loop
+part-step-end-2 c = search needs
+
+step-requires : tie.Need-step-requires Inv-loop μ-loop
+step-requires c κs = search needs
 
 loop-less : tie.Need-loop-less Inv-loop μ-loop
 loop-less c = search needs
@@ -58,8 +73,13 @@ run-spec =
     sub-piece
     piece-requires
     add-b
-    disturb-requires
-    take-part-requires
+    sub-step
+    part-step-start
+    part-step-end
+    sub-step-2
+    part-step-start-2
+    part-step-end-2
+    step-requires
     loop-less
     loop-again
     close-requires
