@@ -6,7 +6,8 @@ use mathlib.Core.List.{List, [], _∷_}
 use lib.ListN.{length, getD, take, drop, set, length-drop, List·getD-append}
 use lib.Seq.{length-take-le, getD-take, getD-drop}
 use Rattle.frames.proofs.Filling.{Put, put-start, put-next, put-end}
-use Rattle.reading.specs.Frames.{digit, flagsIn, valuesIn}
+use Rattle.reading.specs.Frames.{flagsIn, valuesIn}
+use Rattle.characters.specs.Characters.{digit}
 use Rattle.rules.specs.Buffers.{over}
 use Rattle.reading.specs.Post.{behind, AllDigits, FillPost, digitValues, FourDigits, TwoBytes}
 use Rattle.reading.proofs.Pairs.{byte, digit-below, behind-length, behind-at, flags-at, values-at, flags-length, values-length}

@@ -1,5 +1,4 @@
--- Laws of frames: digits, pairs of them, reading, and reading what was written.
-pub mod Digits
+-- Laws of frames: pairs of digits, reading, and reading what was written.
 pub mod Pairs
 pub mod Filling
 pub mod WellFormed

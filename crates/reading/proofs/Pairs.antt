@@ -9,7 +9,8 @@ use lib.ListN.{length, getD, take, drop, length-drop}
 use lib.Seq.{getD-take, getD-drop, length-take-le}
 use borrow.Author.Tests.{ltb-true}
 use Rattle.rules.proofs.Truth.{and-left, and-right}
-use Rattle.reading.specs.Frames.{digit, isDigit, areDigits, bytes, flagsIn, valuesIn, Digits}
+use Rattle.reading.specs.Frames.{bytes, flagsIn, valuesIn}
+use Rattle.characters.specs.Characters.{digit, isDigit, areDigits, Digits}
 use Rattle.reading.specs.Post.{behind, AllDigits}
 
 -- ---- digits

@@ -12,7 +12,8 @@ use Rattle.rules.proofs.Truth.{and-left, and-right}
 use Rattle.reading.specs.declared.Line.{Line}
 use Rattle.reading.specs.declared.Line.the-variants.{Frame as Framed, Refused}
 use Rattle.reading.specs.declared.Frame.the-variants.{Open, Samples, Close}
-use Rattle.reading.specs.Frames.{Reading, opening, samples, closing, refused, areDigits, digits, ended, wellFormed, bytes, flagsIn, valuesIn, openingOf, samplesOf, closingOf, frame, reading}
+use Rattle.reading.specs.Frames.{Reading, opening, samples, closing, refused, digits, ended, wellFormed, bytes, flagsIn, valuesIn, openingOf, samplesOf, closingOf, frame, reading}
+use Rattle.characters.specs.Characters.{areDigits}
 use Rattle.rules.specs.Buffers.{over}
 use Rattle.reading.specs.Post.{lineOf, flagsAfter, valuesAfter, behind, AllDigits, FillPost, ReadPost}
 use Rattle.reading.proofs.Pairs.{byte, kind-first, behind-length, behind-at, flags-length}

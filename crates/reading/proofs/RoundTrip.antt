@@ -1,15 +1,15 @@
 -- Reading what a writer of input frames writes gives the call back.
 use Prim.Native.Nat.{ℕ, zero, suc, _+_, _-_, _*_, _/_, _%_, _≤_, _<_}
 use native.Mathlib.Omega.{arith}
-use mathlib.Core.Path.{_≡_, refl, sym, ap, ap₂, _∙_}
+use mathlib.Core.Path.{_≡_, refl, ap, ap₂, _∙_}
 use mathlib.Core.Bool.{Bool, true, false, cond, _&&_}
 use mathlib.Core.List.{List, [], _∷_, _++_}
-use lib.Dec.{leb, ltb, eqb}
+use lib.Dec.{ltb}
 use lib.ListN.{length, getD, take, length-append}
-use borrow.Author.Tests.{lt-ltb, le-ltb, le-leb, lt-leb, eq-eqb, ltb-true, ltb-false}
+use borrow.Author.Tests.{lt-ltb, le-leb, lt-leb, eq-eqb, ltb-true, ltb-false}
 use Rattle.rules.specs.Lists.{All}
-use Rattle.rules.specs.Samples.{Trace}
-use Rattle.reading.specs.Frames.{Reading, opening, samples, closing, refused, digit, isDigit, areDigits, bytes, digits, ended, wellFormed, flagsIn, valuesIn, frame, reading}
+use Rattle.reading.specs.Frames.{Reading, opening, samples, closing, refused, bytes, digits, wellFormed, flagsIn, valuesIn, frame, reading}
+use Rattle.characters.specs.Characters.{digit, areDigits}
 use Rattle.frames.specs.Writing.{glyph, hexadecimal, written, openLine, pairs, samplesLine, closeLine}
 
 -- ---- one byte

@@ -11,7 +11,8 @@ use borrow.Author.Tests.{ltb-true, ne-eqb, lt-leb}
 use Rattle.rules.specs.Lists.{All}
 use Rattle.rules.specs.Samples.{Trace}
 use Rattle.rules.proofs.Truth.{and-left, and-right}
-use Rattle.reading.specs.Frames.{Reading, opening, samples, closing, refused, digit, isDigit, areDigits, bytes, digits, ended, wellFormed, flagsIn, valuesIn, openingOf, samplesOf, closingOf, frame, reading}
+use Rattle.reading.specs.Frames.{Reading, opening, samples, closing, refused, bytes, digits, ended, wellFormed, flagsIn, valuesIn, openingOf, samplesOf, closingOf, frame, reading}
+use Rattle.characters.specs.Characters.{digit, isDigit, areDigits}
 use Rattle.reading.proofs.Reading.{Formed, formed}
 
 abbrev Byte : ℕ → Type 0

@@ -8,7 +8,8 @@ use lib.Dec.{leb, eqb}
 use lib.ListN.{length, getD, take}
 use borrow.Author.Tests.{leb-true, eqb-true, lt-leb, le-leb, eq-eqb, ne-eqb}
 use Rattle.rules.proofs.Truth.{and-left, and-right}
-use Rattle.reading.specs.Frames.{areDigits, digits, ended, wellFormed}
+use Rattle.reading.specs.Frames.{digits, ended, wellFormed}
+use Rattle.characters.specs.Characters.{areDigits}
 use Rattle.reading.specs.Post.{AllDigits}
 
 module _ (l : List ℕ) where

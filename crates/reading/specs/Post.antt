@@ -9,7 +9,8 @@ use Rattle.rules.specs.Buffers.{over}
 use Rattle.reading.specs.declared.Line.{Line}
 use Rattle.reading.specs.declared.Line.the-variants.{Frame as Framed, Refused}
 use Rattle.reading.specs.declared.Frame.the-variants.{Open, Samples, Close}
-use Rattle.reading.specs.Frames.{Reading, opening, samples, closing, refused, reading, digit, bytes, areDigits, flagsIn, valuesIn}
+use Rattle.reading.specs.Frames.{Reading, opening, samples, closing, refused, reading, bytes, flagsIn, valuesIn}
+use Rattle.characters.specs.Characters.{digit, areDigits}
 
 -- document 01's values for each case
 abbrev pub lineOf : Reading → Line

@@ -1,5 +1,4 @@
 // Frames, one a line: what a line says, or the number with which it is refused.
-mod characters;
 mod samples;
 
 ghost use mathlib.Core.Path.{_≡_};

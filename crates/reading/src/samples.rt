@@ -4,7 +4,7 @@ ghost use mathlib.Core.Path.{_≡_};
 ghost use lib.ListN.{length, take, drop};
 ghost use Rattle.rules.specs.Buffers.{over};
 ghost use Rattle.reading.specs.Post.{AllDigits, FillPost, digitValues, FourDigits, TwoBytes};
-use super::characters::value;
+use characters::value;
 
 fn wide(x: u8) -> u32
     ensures { λ r. ⌜ r ≡ x ⌝ }

@@ -5,7 +5,7 @@ use Rattle.reading.proofs.well_formed.Statement.{statement}
 use Rattle.reading.proofs.well_formed.Tie as tie
 use Rattle.reading.proofs.well_formed.Reads as reads
 use Rattle.reading.proofs.well_formed.Lts as lts
-use Rattle.reading.proofs.characters.are_digits.Reads as are-digits-reads
+use Rattle.characters.proofs.are_digits.Reads as are-digits-reads
 
 -- src/lib.rt:60:9
 returns : tie.Need-returns

@@ -3,12 +3,12 @@ use Prim.Native.Nat.{ℕ, zero, suc, _+_, _-_, _*_, _/_, _%_, _≤_, _<_}
 use native.Mathlib.Omega.{arith}
 use mathlib.Core.Path.{_≡_, refl, sym, ap, ap₂, _∙_}
 use mathlib.Core.Bool.{Bool, true, false, cond, _&&_, _||_}
-use mathlib.Core.List.{List, [], _∷_, _++_}
-use lib.Dec.{leb, ltb}
+use mathlib.Core.List.{List, [], _∷_}
+use lib.Dec.{leb}
 use lib.ListN.{length, getD, take}
 use borrow.Author.Tests.{leb-true, lt-ltb, le-ltb}
 use Rattle.rules.proofs.Truth.{and-left, and-right}
-use Rattle.reading.specs.Frames.{digit, isDigit, areDigits, Digits}
+use Rattle.characters.specs.Characters.{digit, isDigit, areDigits, Digits}
 
 abbrev low : ℕ → Bool
 low c = leb 48 c && leb c 57

@@ -2,7 +2,7 @@
 ghost use Prim.Native.Nat.{_+_, _*_, _<_, _≤_};
 ghost use mathlib.Core.Path.{_≡_};
 ghost use lib.ListN.{length, getD, take};
-ghost use Rattle.reading.specs.Frames.{digit, isDigit, areDigits, Digits};
+ghost use Rattle.characters.specs.Characters.{digit, isDigit, areDigits, Digits};
 
 // Whether a character is a digit.
 fn is_digit(c: u8) -> bool

@@ -1,9 +1,9 @@
-use Rattle.reading.proofs.Digits.{digit-by-bits}
+use Rattle.characters.proofs.Digits.{digit-by-bits}
 use borrow.Author.Needs.{needs}
-use Rattle.reading.proofs.characters.value.Statement.{statement}
-use Rattle.reading.proofs.characters.value.Tie as tie
-use Rattle.reading.proofs.characters.value.Reads as reads
-use Rattle.reading.proofs.characters.value.Lts as lts
+use Rattle.characters.proofs.value.Statement.{statement}
+use Rattle.characters.proofs.value.Tie as tie
+use Rattle.characters.proofs.value.Reads as reads
+use Rattle.characters.proofs.value.Lts as lts
 
 -- src/samples.rt:20:14
 mul-result : tie.Need-mul-result

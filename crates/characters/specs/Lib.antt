@@ -1,0 +1,2 @@
+-- Hexadecimal digits.
+pub mod Characters
