@@ -235,23 +235,29 @@ fn carry_close(p: Processor, c: Call) -> Step {
 
 // ---- reading a call
 
-fn number(high: u8, low: u8) -> u16 {
+fn joined(high: u8, low: u8) -> u16 {
     256 * high as u16 + low as u16
 }
 
-fn call_of(b: [u8; 17]) -> Call {
+fn number(b: &[u8; 17], at: usize) -> u16
+    requires { ⌜ at ≤ 15 ⌝ }
+{
+    joined(b[at], b[at + 1])
+}
+
+fn call_of(b: &[u8; 17]) -> Call {
     Call {
         kind: b[0],
         shown: b[1],
         mode: b[2],
         around: b[3],
         fill: b[4],
-        azimuth: number(b[5], b[6]),
-        flags_start: number(b[7], b[8]),
-        flags: number(b[9], b[10]),
-        values_start: number(b[11], b[12]),
-        values: number(b[13], b[14]),
-        lent: number(b[15], b[16]),
+        azimuth: number(b, 5),
+        flags_start: number(b, 7),
+        flags: number(b, 9),
+        values_start: number(b, 11),
+        values: number(b, 13),
+        lent: number(b, 15),
     }
 }
 
@@ -290,7 +296,7 @@ fn next_call(p: Processor) -> Step {
     if !read_whole(&mut bytes) {
         return give_up(p, b"the input ends without its end");
     }
-    carry_out(p, call_of(bytes))
+    carry_out(p, call_of(&bytes))
 }
 
 // Nothing says that the input ends, so the loop counts down from a number that no run uses up.
