@@ -26,7 +26,7 @@ use Rattle.rules.proofs.Settled.{edge-timed}
 use Rattle.rules.proofs.Skipping.{visit}
 use Rattle.rules.proofs.EachReply.{value-byte, framing, framed-byte, ranged-each}
 use Rattle.replies.specs.Sums.{wrapped}
-use Rattle.machine.specs.Places.{any3, dealt, bracketIf, stepOn, placed, machineOf}
+use Rattle.machine.specs.Places.{pulseOf, any3, dealt, bracketIf, stepOn, placed, machineOf}
 use Rattle.machine.proofs.Steps.{balanced-small, edge-post}
 use Rattle.machine.specs.Post.{Small, f2Value, Fits, EdgePost}
 use Rattle.records.specs.Post.{Queue}
@@ -35,16 +35,16 @@ use Rattle.plane.specs.Words.{bit}
 use Rattle.columns.specs.Columns.{Rows, Sized, placesOf, machineAt}
 use Rattle.columns.specs.Masks.{AllMasked}
 use Rattle.lanes.specs.Post.{HandPost}
-use Rattle.framing.specs.Post.{f2Tick, BracketPost}
+use Rattle.framing.specs.Post.{f2Tick, FramePost, BracketPost}
 use Rattle.hearing.specs.Post.{DealPost}
 use Rattle.columns.proofs.Holding.{masked-rows}
-use Rattle.framing.proofs.Framing.{bracket-none as no-bracket}
+use Rattle.framing.proofs.Framing.{bracket-none as no-bracket, bracket-there as bracket-framed}
 use Rattle.hearing.proofs.Dealing.{deal-none}
 use Rattle.front.specs.declared.span.Span.{Span}
 use Rattle.blocks.specs.Steps.{stateAt, Bounded, Shows, Went, VisitPost}
 use Rattle.front.specs.Post.{valueOf, pulseIn, bracketIn}
 use Rattle.rules.proofs.Answers.{standard-allowed}
-use Rattle.front.proofs.Spans.{span-pulse, span-bracket, bracket-none}
+use Rattle.front.proofs.Spans.{span-pulse, span-bracket, bracket-none, bracket-there}
 
 -- ---- the state after some ticks, as the machine's functions want it
 
@@ -157,18 +157,31 @@ module _ (x : Rows) (c : Counts) (s : Span) (i t : ℕ) (recent : List ℕ) (bas
             visited v li (omega (arith, tick v z)) lt (subst Visited (tick v z) h) sized masked T sh z st k le none′ is room;
       }
 
--- the edge and the bracket as the code has them
-pub bracket-as : (x : Rows) (c : Counts) (e : Pulse) (b : Bracket) (i t : ℕ) (x′ : Rows) (c′ : Counts) (s : Span) (u v : ℕ) (recent : List ℕ) (base : ℕ) (values : List ℕ)
-    → BracketPost x c e b i t x′ c′ → e ≡ pulseIn (s .main) i u v → v ≡ valueOf recent base values (u + 1) → b ≡ bracketIn s i u recent base values
-    → BracketPost x c (pulseIn (s .main) i u (valueOf recent base values (u + 1))) (bracketIn s i u recent base values) i t x′ c′
-bracket-as x c e b i t x′ c′ s u v recent base values h p q k =
-    subst (λ (B : Bracket). BracketPost x c (pulseIn (s .main) i u (valueOf recent base values (u + 1))) B i t x′ c′) k
-    (subst (λ (P : Pulse). BracketPost x c P b i t x′ c′) (p ∙ ap (pulseIn (s .main) i u) q) h)
+-- the edge as the code has it
+module _ (s : Span) (i u value : ℕ) (main : Bool) (recent : List ℕ) (base : ℕ) (values : List ℕ) (em : main ≡ bit (s .main) i) (ev : value ≡ valueOf recent base values (u + 1)) where
+  edge-as : pulseOf u main value ≡ pulseIn (s .main) i u (valueOf recent base values (u + 1))
+  edge-as = λ j. pulseOf u (em j) (ev j)
 
-pub deal-as : (f w : List ℕ) (v : List Float) (on : List ℕ) (e : Pulse) (i : ℕ) (w′ : List ℕ) (v′ : List Float) (s : Span) (u y : ℕ) (recent : List ℕ) (base : ℕ) (values : List ℕ)
-    → DealPost f w v on e i w′ v′ → e ≡ pulseIn (s .main) i u y → y ≡ valueOf recent base values (u + 1)
-    → DealPost f w v on (pulseIn (s .main) i u (valueOf recent base values (u + 1))) i w′ v′
-deal-as f w v on e i w′ v′ s u y recent base values h p q = subst (λ (P : Pulse). DealPost f w v on P i w′ v′) (p ∙ ap (pulseIn (s .main) i u) q) h
+  pub bracket-as : (x : Rows) (c : Counts) (b : Bracket) (t : ℕ) (x′ : Rows) (c′ : Counts) → BracketPost x c (pulseOf u main value) b i t x′ c′
+      → BracketPost x c (pulseIn (s .main) i u (valueOf recent base values (u + 1))) b i t x′ c′
+  bracket-as x c b t x′ c′ = subst (λ (P : Pulse). BracketPost x c P b i t x′ c′) edge-as
+
+  pub deal-as : (f w : List ℕ) (v : List Float) (on : List ℕ) (w′ : List ℕ) (v′ : List Float) → DealPost f w v on (pulseOf u main value) i w′ v′
+      → DealPost f w v on (pulseIn (s .main) i u (valueOf recent base values (u + 1))) i w′ v′
+  deal-as f w v on w′ v′ = subst (λ (P : Pulse). DealPost f w v on P i w′ v′) edge-as
+
+-- where a bracket stands
+pub bracket-some : (x : Rows) (c : Counts) (e : Pulse) (s : Span) (i t u : ℕ) (recent : List ℕ) (base : ℕ) (values : List ℕ) (x′ : Rows) (c′ : Counts) (there main : Bool) (d value : ℕ)
+    → there ≡ (bit (s .at168) i || (bit (s .at167) i || bit (s .at169) i)) → there ≡ true
+    → main ≡ cond (bit (s .at168) i) (bit (s .main168) i) (cond (bit (s .at167) i) (bit (s .main167) i) (bit (s .main169) i)) → d ≡ cond (bit (s .at168) i) 168 (cond (bit (s .at167) i) 167 169)
+    → value ≡ valueOf recent base values (u + d + 1) → FramePost x c e (pulseOf (u + d) main value) i t x′ c′ → BracketPost x c e (bracketIn s i u recent base values) i t x′ c′
+bracket-some x c e s i t u recent base values x′ c′ there main d value et on em ed ev =
+    bracket-framed x c e (bracketIn s i u recent base values) (pulseOf (u + d) main value) i t x′ c′ (sym (bracket-there s i u recent base values there main d value et on em ed ev))
+
+pub bracket-not : (x : Rows) (c : Counts) (e : Pulse) (s : Span) (i t u : ℕ) (recent : List ℕ) (base : ℕ) (values : List ℕ) (there : Bool)
+    → there ≡ (bit (s .at168) i || (bit (s .at167) i || bit (s .at169) i)) → there ≡ false → BracketPost x c e (bracketIn s i u recent base values) i t x c
+bracket-not x c e s i t u recent base values there et off =
+    no-bracket x c e (bracketIn s i u recent base values) i t (sym (bracket-none s i u recent base values there et off))
 
 -- an edge without a bracket that no column covers
 pub visit-skip : (x : Rows) (c : Counts) (s : Span) (i t : ℕ) (recent : List ℕ) (base : ℕ) (values : List ℕ) (at : ℕ) (b : List ℕ) (x₁ : Rows) (r : ℕ) (b′ : List ℕ) (u : ℕ) → i < 64
@@ -180,9 +193,7 @@ visit-skip x c s i t recent base values at b x₁ r b′ u li lu lt tick h f o e
     visit-law x c s i t recent base values at b x₁ r b′ x₁ c (x₁ .row) (x₁ .level) u li lu lt tick
     (record {
       retires = h;
-      brackets =
-          no-bracket x₁ c P (bracketIn s i u recent base values) i t
-          (sym (bracket-none s i u recent base values f ef (or-left f o off)));
+      brackets = bracket-not x₁ c P s i t u recent base values f ef (or-left f o off);
       deals =
           deal-none (x₁ .f1) (x₁ .row) (x₁ .level) (x₁ .on) P i li (bit (getD (x₁ .on) 0 0) i) (bit (getD (x₁ .on) 1 0) i) (bit (getD (x₁ .on) 2 0) i) (bit (getD (x₁ .on) 3 0) i) o refl refl
           refl refl eo (or-right f o off);

@@ -2,12 +2,15 @@
 ghost use Prim.Native.Nat.{_<_, _≤_};
 ghost use mathlib.Core.Path.{_≡_};
 ghost use mathlib.Core.Bool.{true};
+ghost use Rattle.machine.specs.Places.{pulseOf};
+ghost use Rattle.framing.specs.Post.{BracketPost};
+ghost use Rattle.front.specs.Post.{bracketIn};
 ghost use Rattle.blocks.specs.Steps.{VisitPost, LatePost, WorkPost, bare, Waits, Stays, BlockPost};
-use framing::bracket;
+use framing::frame;
 use front::span::Span;
-use front::span::bracket_at;
+use front::span::apart;
 use front::span::framed;
-use front::span::pulse_at;
+use front::span::second_main;
 use front::span::span_of;
 use front::span::tick_of;
 use front::span::top;
@@ -22,6 +25,7 @@ use lanes::mask;
 use lanes::retire;
 use packing::Planes;
 use plane::lowest;
+use plane::marked;
 use plane::without_lowest;
 use replies::ended;
 use rules::Counts;
@@ -45,6 +49,51 @@ pub struct Stand {
 struct Visited {
     pub counts: Counts,
     pub at: usize,
+}
+
+// The bracket at u, the i-th tick of the span, if one stands there; the edge at u has this M and value. The counts after it.
+fn bracket(
+    f1: &mut [u32; 4],
+    marks: &mut [u16; 4],
+    row: &mut [u16; 24],
+    level: &mut [f64; 4],
+    on: &mut [u64; 8],
+    c: Counts,
+    s: Span,
+    i: u32,
+    t: u32,
+    u: u32,
+    main: bool,
+    value: u8,
+    recent: &[u8; 256],
+    base: u32,
+    values: &[u8],
+) -> Counts
+    requires { ⌜ (i < 64) × (t < 65000) × (u < 65536) ⌝ }
+    ensures { λ r. ⌜ BracketPost (record { f1 = now (f1 .entry); marks = now (marks .entry); row = now (row .entry); level = now (level .entry); on = now (on .entry) }) c (pulseOf u main value) (bracketIn s i u (now (recent .entry)) base (now (values .entry))) i t (record { f1 = now (f1 .exit); marks = now (marks .exit); row = now (row .exit); level = now (level .exit); on = now (on .exit) }) r ⌝ }
+{
+    if !framed(s, i) {
+        return c;
+    }
+    let main2 = second_main(s, i);
+    let w = u + apart(s, i);
+    let value2 = value_at(recent, base, values, w + 1);
+    frame(
+        f1,
+        marks,
+        row,
+        level,
+        on,
+        c,
+        u,
+        main,
+        value,
+        w,
+        main2,
+        value2,
+        i,
+        t,
+    )
 }
 
 // The columns at the i-th tick of the span, where an edge stands, once t ticks are taken.
@@ -72,11 +121,26 @@ fn visit(
     if !(framed(s, i) | any_on(on, i)) {
         return Visited { counts: c, at: end };
     }
-    let v = value_at(recent, base, values, u + 1);
-    let e = pulse_at(s.main, i, u, v);
-    let b = bracket_at(s, i, u, recent, base, values);
-    let counts = bracket(f1, marks, row, level, on, c, e, b, i, t);
-    deal(f1, row, level, on, e, i);
+    let value = value_at(recent, base, values, u + 1);
+    let main = marked(s.main, i);
+    let counts = bracket(
+        f1,
+        marks,
+        row,
+        level,
+        on,
+        c,
+        s,
+        i,
+        t,
+        u,
+        main,
+        value,
+        recent,
+        base,
+        values,
+    );
+    deal(f1, row, level, on, u, main, value, i);
     Visited { counts, at: end }
 }
 

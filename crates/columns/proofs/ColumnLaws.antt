@@ -1,10 +1,10 @@
 -- Columns that are written and moved: what a row has at each column afterwards.
-use Prim.Native.Nat.{ℕ, _+_, _%_, _≤_, _<_}
+use Prim.Native.Nat.{ℕ, zero, suc, _+_, _%_, _≤_, _<_}
 use native.Mathlib.Omega.{arith}
 use mathlib.Core.Path.{_≡_, refl, sym, ap, _∙_, subst}
 use mathlib.Core.Logic.{_⊎_, inl, inr}
 use mathlib.Core.Bool.{Bool, true, false, cond}
-use mathlib.Core.List.{List}
+use mathlib.Core.List.{List, [], _∷_}
 use lib.Dec.{eqb}
 use lib.ListN.{length, getD, set, length-set}
 use lib.Seq.{getD-set-same, getD-set-other}
@@ -24,7 +24,7 @@ use Rattle.rules.proofs.Truth.{same-or}
 use Rattle.replies.specs.Sums.{wrapped}
 use Rattle.machine.specs.Places.{idle}
 use Rattle.columns.specs.Columns.{marksNumber, marksOf, kindOf, estimateOf, Rows, Sized, none, wordAt, referenceAt, placeIn, columnAt, idleColumn, FitsSlot}
-use Rattle.columns.specs.Post.{Wrote, WordPost, ReferencePost, PutPost, Moved, rowMoved, wordsMoved, MovePost, DropPost}
+use Rattle.columns.specs.Post.{Wrote, WordPost, ReferencePost, TookPost, PutPost, Moved, rowMoved, wordsMoved, MovePost, DropPost}
 
 -- ---- marks and estimates
 
@@ -188,10 +188,45 @@ module _ (w : List ℕ) (v : List Float) (j : ℕ) (b : Reference) (kind : ℕ) 
   put-reference-law ek ex =
       reference-written (ap (λ (k : ℕ). estimateOf k x) ek ∙ ap (estimateOf (kindOf (b .estimate))) ex ∙ estimate-back (b .estimate))
 
--- a reference with one more value
-pub took-in : (w : List ℕ) (v : List Float) (j : ℕ) (f g : Reference) (y : ℕ) (w′ : List ℕ) (v′ : List Float) → f ≡ referenceAt w v j → g ≡ average wrapped f y
-    → ReferencePost w v j g w′ v′ → ReferencePost w v j (average wrapped (referenceAt w v j) y) w′ v′
-took-in w v j f g y w′ v′ ef eg = subst (λ (z : Reference). ReferencePost w v j z w′ v′) (eg ∙ ap (λ (z : Reference). average wrapped z y) ef)
+-- one of two references, by a digit
+module _ (w : List ℕ) (v : List Float) (j h : ℕ) (g f : Reference) (n s kg kf kind : ℕ) (x y : Float) (lj : j < 4) (lh : h < 2) (en : n ≡ cond (eqb h 1) (g .n) (f .n))
+    (es : s ≡ cond (eqb h 1) (g .s) (f .s)) (eg : kg ≡ kindOf (g .estimate)) (ef : kf ≡ kindOf (f .estimate)) (ek : kind ≡ cond (eqb h 1) kg kf) (ey : y ≡ level (g .estimate))
+    (ex : x ≡ level (f .estimate)) where
+  either-by : (b : Bool) → eqb h 1 ≡ b → (z : Float) → z ≡ cond b y x → ReferencePost w v j (cond b g f) (three w (12 + j) (16 + j) (20 + j) n s kind) (set v j z)
+  either-by true e z ez =
+      subst (λ (k : List ℕ). ReferencePost w v j g k (set v j z))
+      (λ i. three w (12 + j) (16 + j) (20 + j) ((sym en′) i) ((sym es′) i) kind)
+      (put-reference-law w v j g kind z lj (ek ∙ ap (λ (c : Bool). cond c kg kf) e ∙ eg) (ez ∙ ey))
+    where
+      en′ : n ≡ g .n
+      en′ = en ∙ ap (λ (c : Bool). cond c (g .n) (f .n)) e
+
+      es′ : s ≡ g .s
+      es′ = es ∙ ap (λ (c : Bool). cond c (g .s) (f .s)) e
+  either-by false e z ez =
+      subst (λ (k : List ℕ). ReferencePost w v j f k (set v j z))
+      (λ i. three w (12 + j) (16 + j) (20 + j) ((sym en′) i) ((sym es′) i) kind)
+      (put-reference-law w v j f kind z lj (ek ∙ ap (λ (c : Bool). cond c kg kf) e ∙ ef) (ez ∙ ex))
+    where
+      en′ : n ≡ f .n
+      en′ = en ∙ ap (λ (c : Bool). cond c (g .n) (f .n)) e
+
+      es′ : s ≡ f .s
+      es′ = es ∙ ap (λ (c : Bool). cond c (g .s) (f .s)) e
+
+  level-by : (k : ℕ) → k < 2 → getD (x ∷ y ∷ []) k nan ≡ cond (eqb k 1) y x
+  level-by zero l = refl
+  level-by (suc zero) l = refl
+  level-by (suc (suc k)) l = absurd (omega (arith, l))
+
+  pub put-either-law : ReferencePost w v j (cond (eqb h 1) g f) (three w (12 + j) (16 + j) (20 + j) n s kind) (set v j (getD (x ∷ y ∷ []) h nan))
+  put-either-law = either-by (eqb h 1) refl (getD (x ∷ y ∷ []) h nan) (level-by h lh)
+
+-- a reference with one more value, if h is 1
+pub took-in : (w : List ℕ) (v : List Float) (j h : ℕ) (f g : Reference) (y : ℕ) (w′ : List ℕ) (v′ : List Float) → f ≡ referenceAt w v j → g ≡ average wrapped f y
+    → ReferencePost w v j (cond (eqb h 1) g f) w′ v′ → TookPost w v j h y w′ v′
+took-in w v j h f g y w′ v′ ef eg =
+    subst (λ (z : Reference). ReferencePost w v j z w′ v′) (λ i. cond (eqb h 1) ((eg ∙ ap (λ (z : Reference). average wrapped z y) ef) i) (ef i))
 
 -- word and reference, one after the other
 pub put-both : (w : List ℕ) (v : List Float) (j : ℕ) (a : Word) (b : Reference) (w₁ w′ : List ℕ) (v′ : List Float) → WordPost w j a w₁ → ReferencePost w₁ v j b w′ v′ → length w ≡ 24

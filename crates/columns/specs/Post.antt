@@ -1,15 +1,16 @@
 -- What is written to the columns, by the places that these stand for.
 use Prim.Native.Nat.{ℕ, _+_, _≤_, _<_}
 use mathlib.Core.Path.{_≡_}
-use mathlib.Core.Bool.{Bool, _&&_, _||_}
+use mathlib.Core.Bool.{Bool, _&&_, _||_, cond}
 use mathlib.Core.List.{List}
-use lib.Dec.{leb}
+use lib.Dec.{leb, eqb}
 use lib.ListN.{length, getD, set}
 use lib.Ieee.{Float}
 use Rattle.rules.specs.declared.Word.{Word}
 use Rattle.rules.specs.declared.Reference.{Reference}
 use Rattle.rules.specs.declared.Place.{Place}
-use Rattle.rules.specs.Replies.{f1, position, isInside}
+use Rattle.rules.specs.Replies.{f1, position, isInside, average}
+use Rattle.replies.specs.Sums.{wrapped}
 use Rattle.machine.specs.Places.{any3}
 use Rattle.columns.specs.Columns.{Rows, Sized, wordAt, referenceAt, placeIn, columnAt, idleColumn, FitsPlace}
 use Rattle.columns.specs.Masks.{AllMasked}
@@ -32,6 +33,10 @@ pub record WordPost (w : List ℕ) (j : ℕ) (a : Word) (w′ : List ℕ) : Type
 -- its reference alone
 pub record ReferencePost (w : List ℕ) (v : List Float) (j : ℕ) (b : Reference) (w′ : List ℕ) (v′ : List Float) : Type 0 where
   pub result : length w ≡ 24 → length v ≡ 4 → Wrote w v j (wordAt w j) b w′ v′
+
+-- it takes in the value y if h is 1
+abbrev pub TookPost : List ℕ → List Float → ℕ → ℕ → ℕ → List ℕ → List Float → Type 0
+TookPost w v j h y w′ v′ = ReferencePost w v j (cond (eqb h 1) (average wrapped (referenceAt w v j) y) (referenceAt w v j)) w′ v′
 
 -- column j becomes the place p; its words of ticks are written apart
 pub record Put (x : Rows) (j : ℕ) (p : Place) (f′ m′ w′ : List ℕ) (v′ : List Float) : Type 0 where

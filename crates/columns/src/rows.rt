@@ -1,12 +1,13 @@
 // Columns as numbers: read, written, moved up.
 ghost use Prim.Native.Nat.{_<_};
 ghost use mathlib.Core.Path.{_≡_};
+ghost use mathlib.Core.Bool.{cond};
+ghost use lib.Dec.{eqb};
 ghost use Rattle.rules.specs.declared.Slot.the-variants.{Open};
-ghost use Rattle.rules.specs.Replies.{average as average′};
-ghost use Rattle.replies.specs.Sums.{wrapped};
 ghost use Rattle.columns.specs.Columns.{marksNumber, marksOf, kindOf, estimateOf, wordAt, referenceAt, placeIn, placesIn};
-ghost use Rattle.columns.specs.Post.{WordPost, ReferencePost, PutPost, rowMoved, wordsMoved, MovePost, DropPost};
+ghost use Rattle.columns.specs.Post.{WordPost, ReferencePost, TookPost, PutPost, rowMoved, wordsMoved, MovePost, DropPost};
 use replies::average;
+use replies::choose;
 use replies::level_of;
 use replies::pick;
 use rules::Estimate;
@@ -139,14 +140,35 @@ fn put_reference(row: &mut [u16; 24], level: &mut [f64; 4], j: usize, f: Referen
     level[j] = x;
 }
 
-// The reference of column j takes in the value v.
-pub fn take_in(row: &mut [u16; 24], level: &mut [f64; 4], j: usize, v: u8)
-    requires { ⌜ j < 4 ⌝ }
-    ensures { λ _. ⌜ ReferencePost (now (row .entry)) (now (level .entry)) j (average′ wrapped (referenceAt (now (row .entry)) (now (level .entry)) j) v) (now (row .exit)) (now (level .exit)) ⌝ }
+// Writes to column j the reference g if h is 1, f if it is 0. The level is read from two by place, so that there is no branch.
+fn put_either(
+    row: &mut [u16; 24],
+    level: &mut [f64; 4],
+    j: usize,
+    h: u16,
+    g: Reference,
+    f: Reference,
+)
+    requires { ⌜ (j < 4) × (h < 2) ⌝ }
+    ensures { λ _. ⌜ ReferencePost (now (row .entry)) (now (level .entry)) j (cond (eqb h 1) g f) (now (row .exit)) (now (level .exit)) ⌝ }
+{
+    let e = f.estimate;
+    let d = g.estimate;
+    let levels = [level_of(e), level_of(d)];
+    row[12 + j] = choose(h, g.n, f.n);
+    row[16 + j] = choose(h, g.s, f.s);
+    row[20 + j] = choose(h, kind_of(d), kind_of(e));
+    level[j] = levels[h as usize];
+}
+
+// The reference of column j takes in the value v if h is 1, and stays if it is 0.
+pub fn take_in(row: &mut [u16; 24], level: &mut [f64; 4], j: usize, h: u16, v: u8)
+    requires { ⌜ (j < 4) × (h < 2) ⌝ }
+    ensures { λ _. ⌜ TookPost (now (row .entry)) (now (level .entry)) j h v (now (row .exit)) (now (level .exit)) ⌝ }
 {
     let f = reference_at(row, level, j);
     let g = average(f, v);
-    put_reference(row, level, j, g);
+    put_either(row, level, j, h, g, f);
 }
 
 // Writes a reply to column j.

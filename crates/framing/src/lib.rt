@@ -3,8 +3,9 @@ ghost use Prim.Native.Nat.{_<_};
 ghost use mathlib.Core.Path.{_≡_};
 ghost use mathlib.Core.Bool.{_||_, _&&_, not};
 ghost use Rattle.masks.specs.Masks.{coversFrom};
-ghost use Rattle.framing.specs.Post.{OpenPost, FramePost, BracketPost, freeIn, insideIf, anyInside};
+ghost use Rattle.framing.specs.Post.{OpenPost, FramePost, freeIn, insideIf, anyInside};
 ghost use Rattle.columns.specs.Post.{anyOf, militaryFrom};
+ghost use Rattle.machine.specs.Places.{pulseOf};
 use columns::rows::put_reply;
 use lanes::put_open_masks;
 use machine::any4;
@@ -14,10 +15,10 @@ use masks::covered;
 use plane::marked;
 use purging::purge;
 use replies::military;
-use rules::Bracket;
 use rules::Counts;
 use rules::Fate;
 use rules::Pulse;
+use rules::Tick;
 
 // A reply with F1 at q covers u at position 1 to 14, where c says that it covers u: neither so early as position 0, nor so late as 17.
 fn inside_from(c: bool, q: u32, u: u32) -> bool
@@ -85,7 +86,7 @@ fn free_column(f1: &[u32; 4]) -> usize
     3
 }
 
-// A reply opens in the first idle column, at tick i of the block; `covered` says that an open one covers its F1.
+// A reply opens in the first idle column, with F1 at u, which is tick i of the block, and F2 at w; `covered` says that an open one covers its F1.
 fn open_reply(
     f1: &mut [u32; 4],
     marks: &mut [u16; 4],
@@ -93,73 +94,81 @@ fn open_reply(
     level: &mut [f64; 4],
     on: &mut [u64; 8],
     covered: bool,
-    e: Pulse,
-    f2: Pulse,
+    u: u32,
+    main: bool,
+    value: u8,
+    w: u32,
+    main2: bool,
+    value2: u8,
     i: u32,
 )
     requires { ⌜ i < 64 ⌝ }
-    ensures { λ _. ⌜ OpenPost (record { f1 = now (f1 .entry); marks = now (marks .entry); row = now (row .entry); level = now (level .entry); on = now (on .entry) }) covered e f2 i (record { f1 = now (f1 .exit); marks = now (marks .exit); row = now (row .exit); level = now (level .exit); on = now (on .exit) }) ⌝ }
+    ensures { λ _. ⌜ OpenPost (record { f1 = now (f1 .entry); marks = now (marks .entry); row = now (row .entry); level = now (level .entry); on = now (on .entry) }) covered (pulseOf u main value) (pulseOf w main2 value2) i (record { f1 = now (f1 .exit); marks = now (marks .exit); row = now (row .exit); level = now (level .exit); on = now (on .exit) }) ⌝ }
 {
-    let u = e.tick;
-    let suspect = any_inside(f1, on, i, u.0);
-    let military = any_military(f1, u.0);
+    let suspect = any_inside(f1, on, i, u);
+    let military = any_military(f1, u);
+    let e = Pulse {
+        tick: Tick(u),
+        main,
+        value,
+    };
+    let f2 = Pulse {
+        tick: Tick(w),
+        main: main2,
+        value: value2,
+    };
     let r = opened_by(covered, suspect, military, e, f2);
     let j = free_column(f1);
     put_reply(f1, marks, row, level, j, r);
     put_open_masks(on, j, i, suspect);
 }
 
-// The bracket with F1 at e and F2 at f2, at tick i of the block. The counts after it.
-fn frame(
+// The bracket with F1 at u, which is tick i of the block, and F2 at w, each with its M and value. The counts after it.
+pub fn frame(
     f1: &mut [u32; 4],
     marks: &mut [u16; 4],
     row: &mut [u16; 24],
     level: &mut [f64; 4],
     on: &mut [u64; 8],
     c: Counts,
-    e: Pulse,
-    f2: Pulse,
+    u: u32,
+    main: bool,
+    value: u8,
+    w: u32,
+    main2: bool,
+    value2: u8,
     i: u32,
     t: u32,
 ) -> Counts
     requires { ⌜ (i < 64) × (t < 65000) ⌝ }
-    ensures { λ r. ⌜ FramePost (record { f1 = now (f1 .entry); marks = now (marks .entry); row = now (row .entry); level = now (level .entry); on = now (on .entry) }) c e f2 i t (record { f1 = now (f1 .exit); marks = now (marks .exit); row = now (row .exit); level = now (level .exit); on = now (on .exit) }) r ⌝ }
+    ensures { λ r. ⌜ FramePost (record { f1 = now (f1 .entry); marks = now (marks .entry); row = now (row .entry); level = now (level .entry); on = now (on .entry) }) c (pulseOf u main value) (pulseOf w main2 value2) i t (record { f1 = now (f1 .exit); marks = now (marks .exit); row = now (row .exit); level = now (level .exit); on = now (on .exit) }) r ⌝ }
 {
-    if !(e.main | f2.main) {
+    if !(main | main2) {
         return tallied(Fate::Sidelobe, 0, c);
     }
-    let w = f2.tick;
     let n = purge(f1, marks, row, level, on, i);
     let last = f1[3];
     let covered = marked(on[0] | on[1] | on[2] | on[3], i);
-    if !is_clear(f1, e.main & !covered, f2.main, w.0) {
+    if !is_clear(f1, main & !covered, main2, w) {
         return tallied(Fate::Garbled, n, c);
     }
     if last != 4294967295 {
         return tallied(Fate::Lost, n, c);
     }
-    open_reply(f1, marks, row, level, on, covered, e, f2, i);
+    open_reply(
+        f1,
+        marks,
+        row,
+        level,
+        on,
+        covered,
+        u,
+        main,
+        value,
+        w,
+        main2,
+        value2,
+        i,
+    );
     tallied(Fate::Opens, n, c)
-}
-
-// The bracket at e, if one stands there.
-pub fn bracket(
-    f1: &mut [u32; 4],
-    marks: &mut [u16; 4],
-    row: &mut [u16; 24],
-    level: &mut [f64; 4],
-    on: &mut [u64; 8],
-    c: Counts,
-    e: Pulse,
-    b: Bracket,
-    i: u32,
-    t: u32,
-) -> Counts
-    requires { ⌜ (i < 64) × (t < 65000) ⌝ }
-    ensures { λ r. ⌜ BracketPost (record { f1 = now (f1 .entry); marks = now (marks .entry); row = now (row .entry); level = now (level .entry); on = now (on .entry) }) c e b i t (record { f1 = now (f1 .exit); marks = now (marks .exit); row = now (row .exit); level = now (level .exit); on = now (on .exit) }) r ⌝ }
-{
-    match b {
-        Bracket::Without => c,
-        Bracket::With(f2) => frame(f1, marks, row, level, on, c, e, f2, i, t),
-    }
 }

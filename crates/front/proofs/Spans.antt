@@ -143,9 +143,6 @@ keep-law recent values recent′ e =
 
 -- ---- pulses and brackets as the code makes them
 
-pub pulse-same : (x i t v : ℕ) (b : Bool) → b ≡ bit x i → record { tick = record { 0 = t }; main = b; value = v } ≡ pulseIn x i t v
-pulse-same x i t v b e = λ j. record { tick = record { 0 = t }; main = e j; value = v }
-
 -- ---- where an F2 stands, by bits of words
 
 pub digit-is : (x i : ℕ) → x / 2 ^ i % 2 ≡ cond (bit x i) 1 0

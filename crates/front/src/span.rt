@@ -3,17 +3,13 @@ ghost use Prim.Native.Nat.{ℕ, _+_, _<_, _≤_};
 ghost use mathlib.Core.Path.{_≡_};
 ghost use mathlib.Core.Bool.{_||_, cond};
 ghost use Rattle.plane.specs.Words.{bit};
-ghost use Rattle.front.specs.Post.{SpanPost, TopPost, pulseIn, soonerIn, laterIn, bracketIn};
-use super::values::value_at;
+ghost use Rattle.front.specs.Post.{SpanPost, TopPost, soonerIn, laterIn};
 use super::words::Front;
 use edges::brackets::at167;
 use edges::brackets::at168;
 use edges::brackets::due;
 use plane::marked;
 use plane::slide;
-use rules::Bracket;
-use rules::Pulse;
-use rules::Tick;
 
 // The 64 ticks u that the machine can work, as words: edges at u, at u+168, at u+167 and at u+169, and the M of each.
 pub struct Span {
@@ -57,19 +53,6 @@ pub fn top(x: u64, r: u32) -> u64
     (x >> (64 - r)) << (64 - r)
 }
 
-// The pulse at tick t, whose M is bit i of x.
-pub fn pulse_at(x: u64, i: u32, t: u32, value: u8) -> Pulse
-    requires { ⌜ i < 64 ⌝ }
-    ensures { λ r. ⌜ r ≡ pulseIn x i t value ⌝ }
-{
-    let main = marked(x, i);
-    Pulse {
-        tick: Tick(t),
-        main,
-        value,
-    }
-}
-
 // A bracket stands at the i-th tick of the span, if an edge does.
 pub fn framed(s: Span, i: u32) -> bool
     requires { ⌜ i < 64 ⌝ }
@@ -101,7 +84,7 @@ fn digit(x: u64, i: u32) -> u32
 }
 
 // How far behind an edge its F2 stands: 168 ticks, else 167, else 169.
-fn apart(s: Span, i: u32) -> u32
+pub fn apart(s: Span, i: u32) -> u32
     requires { ⌜ i < 64 ⌝ }
     ensures is { λ d. ⌜ d ≡ cond (bit (s .at168) i) 168 (cond (bit (s .at167) i) 167 169) ⌝ }
     ensures most { λ d. ⌜ d ≤ 169 ⌝ }
@@ -110,7 +93,7 @@ fn apart(s: Span, i: u32) -> u32
 }
 
 // M of the F2 there.
-fn second_main(s: Span, i: u32) -> bool
+pub fn second_main(s: Span, i: u32) -> bool
     requires { ⌜ i < 64 ⌝ }
     ensures { λ r. ⌜ r ≡ cond (bit (s .at168) i) (bit (s .main168) i) (cond (bit (s .at167) i) (bit (s .main167) i) (bit (s .main169) i)) ⌝ }
 {
@@ -118,25 +101,6 @@ fn second_main(s: Span, i: u32) -> bool
     let y = sooner(s) & s.main167;
     let z = later(s) & s.main169;
     marked(x | (y | z), i)
-}
-
-// The bracket at tick u, the i-th of the span.
-pub fn bracket_at(s: Span, i: u32, u: u32, recent: &[u8; 256], base: u32, values: &[u8]) -> Bracket
-    requires { ⌜ (i < 64) × (u < 65536) ⌝ }
-    ensures { λ r. ⌜ r ≡ bracketIn s i u (now (recent .entry)) base (now (values .entry)) ⌝ }
-{
-    if !framed(s, i) {
-        return Bracket::Without;
-    }
-    let main = second_main(s, i);
-    let d = apart(s, i);
-    let value = value_at(recent, base, values, u + d + 1);
-    let f = Pulse {
-        tick: Tick(u + d),
-        main,
-        value,
-    };
-    Bracket::With(f)
 }
 
 // The tick of the i-th place of the span, once t ticks are taken.

@@ -1,5 +1,5 @@
 -- The edge goes to the columns that cover it, one after the other; each changes only its own word and reference.
-use Prim.Native.Nat.{ℕ, _+_, _-_, _/_, _%_, _^_, _≤_, _<_}
+use Prim.Native.Nat.{ℕ, _+_, _-_, _*_, _/_, _%_, _^_, _≤_, _<_}
 use native.Mathlib.Omega.{arith}
 use mathlib.Core.Path.{_≡_, refl, sym, ap, _∙_, subst}
 use mathlib.Core.Bool.{Bool, true, false, not, _&&_, _||_, cond}
@@ -8,8 +8,7 @@ use lib.Dec.{leb, eqb}
 use lib.Bits.{bitAnd, bitOr}
 use lib.ListN.{length, getD}
 use lib.Ieee.{Float, nan}
-use lib.Pow.{pow-pos}
-use borrow.Author.Tests.{leb-true, eqb-true, eqb-false, eq-eqb, ne-eqb}
+use borrow.Author.Tests.{leb-true, eqb-true, eqb-false}
 use Rattle.rules.specs.declared.Marks.{Marks}
 use Rattle.rules.specs.declared.Word.{Word}
 use Rattle.rules.specs.declared.Reference.{Reference}
@@ -29,8 +28,9 @@ use Rattle.plane.specs.Words.{bit}
 use Rattle.plane.proofs.BitLaws.{bit-and, bit-or}
 use Rattle.columns.specs.Columns.{none, marksOf, wordAt, referenceAt, placeIn, placesIn}
 use Rattle.masks.specs.Masks.{coversFrom}
-use Rattle.columns.specs.Post.{Wrote, WordPost, ReferencePost}
-use Rattle.hearing.specs.Post.{Heard, HearPost, HearIfPost, twiceIn, whichOf, Dealt, DealPost}
+use Rattle.columns.specs.Post.{WordPost, TookPost}
+use Rattle.hearing.specs.Post.{placeOf, freshIn, Heard, HearPost, HearIfPost, twiceIn, whichOf, Dealt, DealPost}
+use Rattle.hearing.proofs.FreshBits.{fresh-digit, fresh-bit}
 use Rattle.columns.proofs.ColumnLaws.{level-back, put-both, open-there, idle-place}
 
 -- ---- the position that covers a tick
@@ -81,70 +81,50 @@ in-turn : (t s : Bool) (x y : Reference) → cond (t && s) x y ≡ cond t (cond 
 in-turn true s x y = refl
 in-turn false s x y = refl
 
--- a bit that is settled as sure is not 0
-sure-some : (t s : Bool) (n b hit : ℕ) → b ≡ cond t (2 ^ n) 0 → hit ≡ cond s b 0 → not (eqb hit 0) ≡ (t && s)
-sure-some true true n b hit eb eh = ap not (ne-eqb hit 0 (λ z. omega (arith, eb, eh, z, pow-pos n)))
-sure-some true false n b hit eb eh = ap not (eq-eqb hit 0 eh)
-sure-some false true n b hit eb eh = ap not (eq-eqb hit 0 (eh ∙ eb))
-sure-some false false n b hit eb eh = ap not (eq-eqb hit 0 eh)
+-- a position that is settled as sure has a digit of 1
+sure-digit : (t s : Bool) (g h : ℕ) → g ≡ cond t 1 0 → h ≡ cond s g 0 → eqb h 1 ≡ (t && s)
+sure-digit true true g h eg eh = ap (λ (z : ℕ). eqb z 1) (eh ∙ eg)
+sure-digit true false g h eg eh = ap (λ (z : ℕ). eqb z 1) eh
+sure-digit false true g h eg eh = ap (λ (z : ℕ). eqb z 1) (eh ∙ eg)
+sure-digit false false g h eg eh = ap (λ (z : ℕ). eqb z 1) eh
 
--- what is not sure is unsure
-unsure-rest : (s : Bool) (b hit : ℕ) → hit ≡ cond s b 0 → b - hit ≡ cond s 0 b
-unsure-rest true b hit e = omega arith
-unsure-rest false b hit e = omega arith
+pub digit-most : (s : Bool) (g h : ℕ) → g < 2 → h ≡ cond s g 0 → h < 2
+digit-most true g h l e = omega (arith, e)
+digit-most false g h l e = omega (arith, e)
 
-pub sure-most : (s : Bool) (b hit : ℕ) → hit ≡ cond s b 0 → hit ≤ b
-sure-most true b hit e = omega arith
-sure-most false b hit e = omega arith
-
-module _ (f w : List ℕ) (v : List Float) (j : ℕ) (e : Pulse) (own other : Bool) (k : ℕ) (ek : coversFrom (getD f j 0) (e .tick .0) ≡ true → k ≡ position (getD f j 0) (e .tick .0)) (x : Word)
-    (ex : x ≡ wordAt w j) (b : ℕ) (eb : isPosition k ≡ true → b ≡ cond (takes k (x .settled)) (2 ^ bitOf k) 0) (code sure : Bool) (ec : code ≡ verdict (e .main) own other .code)
-    (es : sure ≡ verdict (e .main) own other .confidence) (hit c : ℕ) (eh : hit ≡ cond sure b 0) (ed : c ≡ cond code b 0) (a : Word)
-    (ea : (t : Bool) (n : ℕ) (y : Verdict) → b ≡ cond t (2 ^ bitOf n) 0 → c ≡ cond (y .code) b 0 → b - hit ≡ cond (y .confidence) 0 b → a ≡ cond t (settle wrapped n y x) x) (w₁ : List ℕ)
-    (word : WordPost w j a w₁) where
-  heard-by : (w′ : List ℕ) (v′ : List Float)
-      → (length w ≡ 24 → length v ≡ 4 → Wrote w v j a (cond (not (eqb hit 0)) (average wrapped (referenceAt w v j) (e .value)) (referenceAt w v j)) w′ v′) → HearPost f w v j e own other w′ v′
-  heard-by w′ v′ p =
-      record {
-        result = λ lw lv c.
-            let h = p lw lv in
-            let K = position (getD f j 0) (e .tick .0) in
-            let T = takes K (wordAt w j .settled) in
-            let on : isPosition k ≡ true = ap isPosition (ek c) ∙ sym (covers-from (getD f j 0) (e .tick .0)) ∙ c in
-            let fresh : b ≡ cond T (2 ^ bitOf K) 0 = eb on ∙ (λ i. cond (takes (ek c i) (ex i .settled)) (2 ^ bitOf (ek c i)) 0) in
-            let some = sure-some T sure (bitOf K) b hit fresh eh in
-            record {
-              row-size = h .row-size;
-              level-size = h .level-size;
-              word =
-                  h .word ∙ ea T K (record { code = code; confidence = sure }) fresh ed (unsure-rest sure b hit eh)
-                  ∙ (λ i. cond T (settle wrapped K (record { code = ec i; confidence = es i }) (ex i)) (ex i));
-              reference =
-                  h .reference ∙ (λ i. cond (some i) (average wrapped (referenceAt w v j) (e .value)) (referenceAt w v j))
-                  ∙ in-turn T sure (average wrapped (referenceAt w v j) (e .value)) (referenceAt w v j)
-                  ∙ ap (λ (y : Bool). cond T (cond y (average wrapped (referenceAt w v j) (e .value)) (referenceAt w v j)) (referenceAt w v j)) es;
-              word-rest = h .word-rest;
-              reference-rest = h .reference-rest;
-            };
-      }
-
-  -- the reference stays
-  pub heard-unsure : hit ≡ 0 → HearPost f w v j e own other w₁ v
-  heard-unsure z =
-      heard-by w₁ v
-      (λ lw lv.
-      subst (λ (g : Reference). Wrote w v j a g w₁ v)
-      (sym (ap (λ (y : Bool). cond (not y) (average wrapped (referenceAt w v j) (e .value)) (referenceAt w v j)) (eq-eqb hit 0 z))) (word .result v lw lv))
-
-  -- the reference takes in the value
-  pub heard-sure : (hit ≡ 0 → ⊥) → (w′ : List ℕ) (v′ : List Float) → ReferencePost w₁ v j (average wrapped (referenceAt w₁ v j) (e .value)) w′ v′ → HearPost f w v j e own other w′ v′
-  heard-sure z w′ v′ reference =
-      heard-by w′ v′
-      (λ lw lv.
-      subst (λ (g : Reference). Wrote w v j a g w′ v′)
-      (ap (λ (g : Reference). average wrapped g (e .value)) (word .result v lw lv .reference)
-      ∙ sym (ap (λ (y : Bool). cond (not y) (average wrapped (referenceAt w v j) (e .value)) (referenceAt w v j)) (ne-eqb hit 0 z)))
-      (put-both w v j a (average wrapped (referenceAt w₁ v j) (e .value)) w₁ w′ v′ word reference lw lv))
+-- with k for the position, x for the word before and a for that after, g for the digit that says whether the edge settles k, b for the position's bit
+pub heard-law : (f w : List ℕ) (v : List Float) (j : ℕ) (e : Pulse) (own other : Bool) (k : ℕ) → (coversFrom (getD f j 0) (e .tick .0) ≡ true → k ≡ position (getD f j 0) (e .tick .0))
+    → (p : ℕ) → p ≡ placeOf k → (x : Word) → x ≡ wordAt w j → (g : ℕ) → g ≡ freshIn (x .settled) p → (code sure : Bool) → code ≡ verdict (e .main) own other .code
+    → sure ≡ verdict (e .main) own other .confidence → (c n h : ℕ) → c ≡ cond code ((g * 2 ^ p) % 2 ^ 16) 0 → n ≡ cond sure 0 ((g * 2 ^ p) % 2 ^ 16) → h ≡ cond sure g 0 → (a : Word)
+    → ((t : Bool) (q : ℕ) (y : Verdict) → (g * 2 ^ p) % 2 ^ 16 ≡ cond t (2 ^ bitOf q) 0 → c ≡ cond (y .code) ((g * 2 ^ p) % 2 ^ 16) 0 → n ≡ cond (y .confidence) 0 ((g * 2 ^ p) % 2 ^ 16)
+    → a ≡ cond t (settle wrapped q y x) x) → (w₁ : List ℕ) → WordPost w j a w₁ → (w′ : List ℕ) (v′ : List Float) → TookPost w₁ v j h (e .value) w′ v′ → HearPost f w v j e own other w′ v′
+heard-law f w v j e own other k ek p ep x ex g eg code sure ec es c n h ed en eh a ea w₁ word w′ v′ took =
+    record {
+      result = λ lw lv z.
+          let K = position (getD f j 0) (e .tick .0) in
+          let T = takes K (wordAt w j .settled) in
+          let on : isPosition K ≡ true = sym (covers-from (getD f j 0) (e .tick .0)) ∙ z in
+          let at : p ≡ placeOf K = ep ∙ ap placeOf (ek z) in
+          let there : g ≡ freshIn (wordAt w j .settled) (placeOf K) = eg ∙ (λ i. freshIn (ex i .settled) (at i)) in
+          let digit : g ≡ cond T 1 0 = there ∙ fresh-digit (wordAt w j .settled) K on in
+          let b : (g * 2 ^ p) % 2 ^ 16 ≡ cond T (2 ^ bitOf K) 0 =
+          (λ i. (there i * 2 ^ at i) % 2 ^ 16) ∙ fresh-bit (wordAt w j .settled) K on in
+          let q = put-both w v j a (cond (eqb h 1) (average wrapped (referenceAt w₁ v j) (e .value)) (referenceAt w₁ v j)) w₁ w′ v′ word took lw lv in
+          let r = word .result v lw lv .reference in
+          record {
+            row-size = q .row-size;
+            level-size = q .level-size;
+            word =
+                q .word ∙ ea T K (record { code = code; confidence = sure }) b ed en
+                ∙ (λ i. cond T (settle wrapped K (record { code = ec i; confidence = es i }) (ex i)) (ex i));
+            reference =
+                q .reference ∙ (λ i. cond (sure-digit T sure g h digit eh i) (average wrapped (r i) (e .value)) (r i))
+                ∙ in-turn T sure (average wrapped (referenceAt w v j) (e .value)) (referenceAt w v j)
+                ∙ ap (λ (y : Bool). cond T (cond y (average wrapped (referenceAt w v j) (e .value)) (referenceAt w v j)) (referenceAt w v j)) es;
+            word-rest = q .word-rest;
+            reference-rest = q .reference-rest;
+          };
+    }
 
 pub hear-not : (c : Bool) (f w : List ℕ) (v : List Float) (j : ℕ) (e : Pulse) (own other : Bool) → c ≡ false → HearIfPost c f w v j e own other w v
 hear-not c f w v j e own other h = record { does = λ z. absurd (impossible (sym z ∙ h)); same-row = λ z. refl; same-level = λ z. refl }

@@ -1,18 +1,18 @@
--- The bit of a position that an edge settles: one bit of 16, which the complement of the settled positions keeps or clears.
+-- The bit of a position that an edge settles: one of 16, read from the complement of the settled positions.
 use Prim.Native.Nat.{ℕ, zero, suc, _+_, _-_, _*_, _/_, _%_, _^_, _≤_, _<_}
 use native.Mathlib.Nat.{mod-lt}
 use native.Mathlib.Omega.{arith}
 use mathlib.Core.Path.{_≡_, refl, sym, ap, _∙_}
 use mathlib.Core.Bool.{Bool, true, false, not, _||_, cond, or-true}
 use lib.Dec.{leb, eqb}
-use lib.Bits.{bitAnd, and-block, and-comm, and-mask, and-zero-l}
-use lib.Pow.{pow-mono, pow-pos, split}
+use lib.Pow.{pow-mono}
 use borrow.Author.Tests.{leb-true, leb-false, eqb-true}
 use Rattle.rules.specs.Samples.{bit as digit}
 use Rattle.rules.specs.Replies.{isPosition, isInside, bitOf, takes}
 use Rattle.rules.proofs.Truth.{impossible}
 use Rattle.plane.specs.Words.{bit}
 use Rattle.plane.proofs.BitLaws.{bit-not, bit-mod, bit-above}
+use Rattle.hearing.specs.Post.{placeOf, freshIn}
 
 -- ---- one bit of a word
 
@@ -22,19 +22,14 @@ once zero p h = omega arith
 once (suc zero) p h = omega arith
 once (suc (suc x)) p h = absurd (omega arith)
 
-and-one : (z : ℕ) → bitAnd 1 z ≡ z % 2
-and-one z = and-comm 1 z ∙ and-mask z 1
+digit-by : (x : ℕ) → x < 2 → x ≡ cond (eqb x 1) 1 0
+digit-by zero h = refl
+digit-by (suc zero) h = refl
+digit-by (suc (suc x)) h = absurd (omega (arith, h))
 
-and-power : (j y : ℕ) → bitAnd (2 ^ j) y ≡ cond (bit y j) (2 ^ j) 0
-unfolding bit
-and-power j y =
-    let one : 2 ^ j ≡ 1 * 2 ^ j + 0 = omega arith in
-    let last : bitAnd 1 (y / 2 ^ j) * 2 ^ j + 0 ≡ bitAnd 1 (y / 2 ^ j) * 2 ^ j = omega arith in
-    (λ i. bitAnd (one i) (sym (split y j) i))
-    ∙ and-block j 1 (y / 2 ^ j) 0 (y % 2 ^ j) (pow-pos j) (mod-lt y (pow-pos j))
-    ∙ ap (λ (x : ℕ). bitAnd 1 (y / 2 ^ j) * 2 ^ j + x) (and-zero-l (y % 2 ^ j)) ∙ last
-    ∙ ap (λ (x : ℕ). x * 2 ^ j) (and-one (y / 2 ^ j))
-    ∙ once (y / 2 ^ j % 2) (2 ^ j) (mod-lt (y / 2 ^ j) (omega arith))
+least-of : (b : Bool) (p : ℕ) → cond b p 0 ≤ p
+least-of true p = omega arith
+least-of false p = omega arith
 
 bit-digit : (x i : ℕ) → bit x i ≡ digit i x
 unfolding bit
@@ -43,11 +38,17 @@ bit-digit x i = refl
 -- ---- what is not settled yet
 
 module _ (s j : ℕ) where
-  fresh-value : j < 16 → bitAnd ((1 * 2 ^ j) % 2 ^ 16) (32767 - s % 32768) ≡ cond (bit (32767 - s % 32768) j) (2 ^ j) 0
-  fresh-value h =
+  digit-value : freshIn s j ≡ cond (bit (32767 - s % 32768) j) 1 0
+  unfolding bit
+  digit-value = digit-by (freshIn s j) (mod-lt ((32767 - s % 32768) / 2 ^ j) (omega arith))
+
+  bit-value : j < 16 → (freshIn s j * 2 ^ j) % 2 ^ 16 ≡ cond (bit (32767 - s % 32768) j) (2 ^ j) 0
+  unfolding bit
+  bit-value h =
       let l : 2 ^ j ≤ 32768 = pow-mono {i = j} {j = 15} (omega arith) in
-      let e : (1 * 2 ^ j) % 2 ^ 16 ≡ 2 ^ j = omega arith in
-      ap (λ (x : ℕ). bitAnd x (32767 - s % 32768)) e ∙ and-power j (32767 - s % 32768)
+      let o = once (freshIn s j) (2 ^ j) (mod-lt ((32767 - s % 32768) / 2 ^ j) (omega arith)) in
+      let m = least-of (eqb (freshIn s j) 1) (2 ^ j) in
+      omega (arith, o, m, l)
 
   -- bit 15 is none of the positions'
   fresh-none : j ≡ 15 → bit (32767 - s % 32768) j ≡ false
@@ -58,30 +59,28 @@ module _ (s j : ℕ) where
 
 -- ---- the position's own bit
 
--- where bit j is that of position k: position 0 has bit 15
-abbrev pub placeOf : ℕ → ℕ
-placeOf k = (k % 32 + 15 - 2 * (k % 32 / 16)) % 16
-
 module _ (s k : ℕ) where
-  settles-own : (isInside k || eqb k 17) ≡ true → placeOf k ≡ bitOf k → placeOf k < 15
-      → bitAnd ((1 * 2 ^ placeOf k) % 2 ^ 16) (32767 - s % 32768) ≡ cond (takes k s) (2 ^ bitOf k) 0
-  settles-own h e l =
-      let b : bit (32767 - s % 32768) (placeOf k) ≡ takes k s = fresh-some s (placeOf k) l ∙ ap (λ (z : ℕ). not (digit z s)) e ∙ sym (rw h) in
-      fresh-value s (placeOf k) (omega arith) ∙ (λ i. cond (b i) (2 ^ e i) 0)
+  -- bit placeOf k is that of the position, and says whether an edge settles it
+  record Own : Type 0 where
+    tells : bit (32767 - s % 32768) (placeOf k) ≡ takes k s
+    same : takes k s ≡ true → placeOf k ≡ bitOf k
 
-  settles-none : (isInside k || eqb k 17) ≡ false → placeOf k ≡ 15
-      → bitAnd ((1 * 2 ^ placeOf k) % 2 ^ 16) (32767 - s % 32768) ≡ cond (takes k s) (2 ^ bitOf k) 0
-  settles-none h e =
-      fresh-value s (placeOf k) (omega arith) ∙ ap (λ (y : Bool). cond y (2 ^ placeOf k) 0) (fresh-none s (placeOf k) e) ∙ sym (rw h)
+  own-some : (isInside k || eqb k 17) ≡ true → placeOf k ≡ bitOf k → placeOf k < 15 → Own
+  own-some h e l =
+      record { tells = fresh-some s (placeOf k) l ∙ ap (λ (z : ℕ). not (digit z s)) e ∙ sym (rw h); same = λ z. e }
 
-  pub fresh-law : isPosition k ≡ true → bitAnd ((1 * 2 ^ placeOf k) % 2 ^ 16) (32767 - s % 32768) ≡ cond (takes k s) (2 ^ bitOf k) 0
-  fresh-law h = go (leb k 14) refl (eqb k 17) refl (leb 1 k) refl
+  own-none : (isInside k || eqb k 17) ≡ false → placeOf k ≡ 15 → Own
+  own-none h e =
+      let n : takes k s ≡ false = rw h in
+      record { tells = fresh-none s (placeOf k) e ∙ sym n; same = λ z. absurd (impossible (sym z ∙ n)) }
+
+  own : isPosition k ≡ true → Own
+  own h = go (leb k 14) refl (eqb k 17) refl (leb 1 k) refl
     where
-      go : (a : Bool) → leb k 14 ≡ a → (b : Bool) → eqb k 17 ≡ b → (c : Bool) → leb 1 k ≡ c
-          → bitAnd ((1 * 2 ^ placeOf k) % 2 ^ 16) (32767 - s % 32768) ≡ cond (takes k s) (2 ^ bitOf k) 0
+      go : (a : Bool) → leb k 14 ≡ a → (b : Bool) → eqb k 17 ≡ b → (c : Bool) → leb 1 k ≡ c → Own
       go a ea true eb true ec =
           let f : placeOf k ≡ 14 = ap placeOf (eqb-true k 17 eb) in
-          settles-own (rw (eb, ec, ea) (or-true a)) (f ∙ sym (rw eb)) (omega (arith, f))
+          own-some (rw (eb, ec, ea) (or-true a)) (f ∙ sym (rw eb)) (omega (arith, f))
       go a ea true eb false ec = absurd (omega (arith, eqb-true k 17 eb, leb-false 1 k ec))
       go true ea false eb true ec =
           let y = leb-true k 14 ea in
@@ -91,8 +90,20 @@ module _ (s k : ℕ) where
           let n : k % 32 + 15 - 2 * (k % 32 / 16) ≡ k - 1 + 16 = omega (arith, m, d) in
           let o : (k - 1 + 16) % 16 ≡ k - 1 = omega arith in
           let f : placeOf k ≡ k - 1 = ap (λ (x : ℕ). x % 16) n ∙ o in
-          settles-own (rw (eb, ec, ea)) (f ∙ sym (rw eb)) (omega (arith, f))
+          own-some (rw (eb, ec, ea)) (f ∙ sym (rw eb)) (omega (arith, f))
       go true ea false eb false ec =
           let z : k ≡ 0 = omega (arith, leb-false 1 k ec) in
-          settles-none (rw (eb, ec)) (ap placeOf z)
+          own-none (rw (eb, ec)) (ap placeOf z)
       go false ea false eb c ec = absurd (impossible (sym h ∙ rw (ea, eb)))
+
+  -- the digit that says so, and the position's bit
+  pub fresh-digit : isPosition k ≡ true → freshIn s (placeOf k) ≡ cond (takes k s) 1 0
+  fresh-digit h = digit-value s (placeOf k) ∙ ap (λ (y : Bool). cond y 1 0) (own h .tells)
+
+  pub fresh-bit : isPosition k ≡ true → (freshIn s (placeOf k) * 2 ^ placeOf k) % 2 ^ 16 ≡ cond (takes k s) (2 ^ bitOf k) 0
+  fresh-bit h =
+      bit-value s (placeOf k) (omega arith) ∙ ap (λ (y : Bool). cond y (2 ^ placeOf k) 0) (own h .tells) ∙ go (takes k s) refl
+    where
+      go : (y : Bool) → takes k s ≡ y → cond y (2 ^ placeOf k) 0 ≡ cond y (2 ^ bitOf k) 0
+      go true e = ap (λ (z : ℕ). 2 ^ z) (own h .same e)
+      go false e = refl

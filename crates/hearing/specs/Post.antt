@@ -1,5 +1,5 @@
 -- What an edge makes of the columns that cover it, by the places that these stand for.
-use Prim.Native.Nat.{ℕ, _+_, _<_}
+use Prim.Native.Nat.{ℕ, _+_, _-_, _*_, _/_, _%_, _^_, _<_}
 use mathlib.Core.Path.{_≡_}
 use mathlib.Core.Bool.{Bool, true, false, cond}
 use mathlib.Core.List.{List}
@@ -14,6 +14,14 @@ use Rattle.machine.specs.Places.{dealt}
 use Rattle.columns.specs.Columns.{wordAt, referenceAt, placesIn}
 use Rattle.masks.specs.Masks.{coversFrom}
 use Rattle.columns.specs.Masks.{AllMasked}
+
+-- the number of the bit of position k, which covers; 15 for position 0, which no edge settles
+abbrev pub placeOf : ℕ → ℕ
+placeOf k = (k % 32 + 15 - 2 * (k % 32 / 16)) % 16
+
+-- 1 where bit p, of the 15 that positions have, is not settled
+abbrev pub freshIn : ℕ → ℕ → ℕ
+freshIn settled p = (32767 - settled % 32768) / 2 ^ p % 2
 
 -- the edge e settles a position of column j, which covers it, or none
 pub record Heard (f w : List ℕ) (v : List Float) (j : ℕ) (e : Pulse) (own other : Bool) (w′ : List ℕ) (v′ : List Float) : Type 0 where

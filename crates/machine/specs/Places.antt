@@ -18,6 +18,10 @@ use Rattle.rules.specs.Settings.{Settings}
 use Rattle.rules.specs.Replies.{Verdict, f1, position, isInside, takes, heardAt, hear, speaks, covers, inside, military, isPhantom}
 use Rattle.rules.specs.Machine.{State, openedBy, fateBy, tally}
 
+-- a pulse, from its tick, M and value
+abbrev pub pulseOf : ℕ → Bool → ℕ → Pulse
+pulseOf u main value = record { tick = record { 0 = u }; main = main; value = value }
+
 -- ---- tests on a place, and on the four
 
 -- an idle place passes no test

@@ -1,9 +1,9 @@
 -- What the code computes of a reply is what the rules say: tests by ticks, code and confidence, constants, settling.
-use Prim.Native.Nat.{ℕ, _+_, _-_, _%_, _^_, _≤_, _<_}
+use Prim.Native.Nat.{ℕ, zero, suc, _+_, _-_, _*_, _%_, _^_, _≤_, _<_}
 use native.Mathlib.Omega.{arith}
 use mathlib.Core.Path.{_≡_, refl, sym, ap, _∙_}
 use mathlib.Core.Bool.{Bool, true, false, not, _&&_, _||_, cond}
-use lib.Dec.{leb, ltb}
+use lib.Dec.{leb, ltb, eqb}
 use lib.IntN.{negsuc}
 use lib.Ieee.{Float, fin, binary64, ofBits}
 use borrow.Author.Tests.{leb-true, leb-false, lt-ltb, le-ltb}
@@ -107,3 +107,16 @@ module _ (t : Bool) (k : ℕ) (v : Verdict) (b c n : ℕ) (w : Word) (x y z : �
         code = add-none (w .code) (cond (v .code) 0 0) lc (no-choice (v .code)) i;
         unsure = add-none (w .unsure) (cond (v .confidence) 0 0) lu (no-choice (v .confidence)) i;
       }
+
+-- ---- a number by a digit
+
+-- with d for a - b in 16 bits
+pub choice-fits : (h d : ℕ) → h < 2 → d < 2 ^ 16 → h * d < 2 ^ 16
+choice-fits zero d lh ld = omega arith
+choice-fits (suc zero) d lh ld = omega (arith, ld)
+choice-fits (suc (suc h)) d lh ld = absurd (omega (arith, lh))
+
+pub choice-law : (h a b d r : ℕ) → h < 2 → b < 2 ^ 16 → (d + b) % 2 ^ 16 ≡ a → r ≡ wrapped b (h * d) → r ≡ cond (eqb h 1) a b
+choice-law zero a b d r lh lb ed er = omega (arith, er, lb)
+choice-law (suc zero) a b d r lh lb ed er = omega (arith, er, ed)
+choice-law (suc (suc h)) a b d r lh lb ed er = absurd (omega (arith, lh))

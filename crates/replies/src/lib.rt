@@ -1,6 +1,7 @@
 // One reply: tests by ticks, what it agrees with, and what an edge settles. Numbers in, numbers out.
 ghost use mathlib.Core.Path.{_≡_};
 ghost use Prim.Native.Nat.{ℕ, _^_, _<_};
+ghost use lib.Dec.{eqb};
 ghost use mathlib.Core.Bool.{Bool, cond};
 ghost use Rattle.replies.specs.Sums.{wrapped};
 ghost use Rattle.rules.specs.declared.Reply.{Reply};
@@ -98,6 +99,15 @@ pub fn pick(c: bool, a: u16, b: u16) -> u16
         return a;
     }
     b
+}
+
+// a if h is 1, b if it is 0: by arithmetic, which has no branch.
+pub fn choose(h: u16, a: u16, b: u16) -> u16
+    requires { ⌜ h < 2 ⌝ }
+    ensures { λ r. ⌜ r ≡ cond (eqb h 1) a b ⌝ }
+{
+    let d = std::num::wrapping_sub_u16(a, b);
+    plus(b, h * d)
 }
 
 // The word with a position settled whose bit is b, with c for the code and n for unsure; with 0 for all three the word as it is.

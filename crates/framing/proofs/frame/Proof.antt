@@ -1,3 +1,4 @@
+use Rattle.machine.specs.Places.{pulseOf}
 use borrow.Author.Tests.{ne-eqb, not-false, not-true}
 use Rattle.framing.proofs.Framing.{frame-sidelobe, frame-garbled, frame-lost, frame-opens}
 use native.Mathlib.Omega.{arith}
@@ -18,7 +19,7 @@ tallied-requires c κs = search needs
 
 -- src/steps.rt:278:9
 returns : tie.Need-returns
-returns c = frame-sidelobe (record { f1 = c .before .before .before .before .args .f1 .now; marks = c .before .before .before .before .args .marks .now; row = c .before .before .before .before .args .row .now; level = c .before .before .before .before .args .level .now; on = c .before .before .before .before .args .on .now }) (c .before .before .before .before .args .c) (c .before .before .before .before .args .e) (c .before .before .before .before .args .f2) (c .before .before .before .before .args .i) (c .before .before .before .before .args .t) (c .before .before .before .before .pre .0) _ (not-true _ (c .before .if1 .taken)) (c .tallied .ensures)
+returns c = frame-sidelobe (record { f1 = c .before .before .args .f1 .now; marks = c .before .before .args .marks .now; row = c .before .before .args .row .now; level = c .before .before .args .level .now; on = c .before .before .args .on .now }) (c .before .before .args .c) (pulseOf (c .before .before .args .u) (c .before .before .args .main) (c .before .before .args .value)) (pulseOf (c .before .before .args .w) (c .before .before .args .main2) (c .before .before .args .value2)) (c .before .before .args .i) (c .before .before .args .t) (c .before .before .pre .0) _ (not-true _ (c .before .if1 .taken)) (c .tallied .ensures)
 
 -- src/steps.rt:281:9
 purge-requires : tie.Need-purge-requires
@@ -58,7 +59,7 @@ tallied-requires-2 c κs = search needs
 
 -- src/steps.rt:285:9
 returns-2 : tie.Need-returns-2
-returns-2 c = frame-garbled (record { f1 = c .before .before .before .before .before .before .before .before .before .before .before .before .before .before .before .before .before .before .before .before .before .args .f1 .now; marks = c .before .before .before .before .before .before .before .before .before .before .before .before .before .before .before .before .before .before .before .before .before .args .marks .now; row = c .before .before .before .before .before .before .before .before .before .before .before .before .before .before .before .before .before .before .before .before .before .args .row .now; level = c .before .before .before .before .before .before .before .before .before .before .before .before .before .before .before .before .before .before .before .before .before .args .level .now; on = c .before .before .before .before .before .before .before .before .before .before .before .before .before .before .before .before .before .before .before .before .before .args .on .now }) (c .before .before .before .before .before .before .before .before .before .before .before .before .before .before .before .before .before .before .before .before .before .args .c) (c .before .before .before .before .before .before .before .before .before .before .before .before .before .before .before .before .before .before .before .before .before .args .e) (c .before .before .before .before .before .before .before .before .before .before .before .before .before .before .before .before .before .before .before .before .before .args .f2) (c .before .before .before .before .before .before .before .before .before .before .before .before .before .before .before .before .before .before .before .before .before .args .i) (c .before .before .before .before .before .before .before .before .before .before .before .before .before .before .before .before .before .before .before .before .before .args .t) (c .before .before .before .before .before .before .before .before .before .before .before .before .before .before .before .before .before .before .before .before .before .pre .0) _ _ (c .before .before .before .before .before .before .before .before .before .before .before .purge .ensures) (not-false _ (c .before .before .before .before .before .before .before .before .before .before .before .before .before .before .before .before .before .before .if1 .left)) _ (c .before .before .before .before .before .marked .ensures) _ (c .before .before .is-clear .ensures) _ (not-true _ (c .before .if2 .taken)) (c .tallied2 .ensures)
+returns-2 c = frame-garbled (record { f1 = c .before .before .before .before .before .before .before .before .before .before .before .before .before .before .before .before .before .args .f1 .now; marks = c .before .before .before .before .before .before .before .before .before .before .before .before .before .before .before .before .before .args .marks .now; row = c .before .before .before .before .before .before .before .before .before .before .before .before .before .before .before .before .before .args .row .now; level = c .before .before .before .before .before .before .before .before .before .before .before .before .before .before .before .before .before .args .level .now; on = c .before .before .before .before .before .before .before .before .before .before .before .before .before .before .before .before .before .args .on .now }) (c .before .before .before .before .before .before .before .before .before .before .before .before .before .before .before .before .before .args .c) (pulseOf (c .before .before .before .before .before .before .before .before .before .before .before .before .before .before .before .before .before .args .u) (c .before .before .before .before .before .before .before .before .before .before .before .before .before .before .before .before .before .args .main) (c .before .before .before .before .before .before .before .before .before .before .before .before .before .before .before .before .before .args .value)) (pulseOf (c .before .before .before .before .before .before .before .before .before .before .before .before .before .before .before .before .before .args .w) (c .before .before .before .before .before .before .before .before .before .before .before .before .before .before .before .before .before .args .main2) (c .before .before .before .before .before .before .before .before .before .before .before .before .before .before .before .before .before .args .value2)) (c .before .before .before .before .before .before .before .before .before .before .before .before .before .before .before .before .before .args .i) (c .before .before .before .before .before .before .before .before .before .before .before .before .before .before .before .before .before .args .t) (c .before .before .before .before .before .before .before .before .before .before .before .before .before .before .before .before .before .pre .0) _ _ (c .before .before .before .before .before .before .before .before .before .before .purge .ensures) (not-false _ (c .before .before .before .before .before .before .before .before .before .before .before .before .before .before .before .before .if1 .left)) _ (c .before .before .before .before .marked .ensures) _ (c .before .before .is-clear .ensures) _ (not-true _ (c .before .if2 .taken)) (c .tallied2 .ensures)
 
 -- src/steps.rt:288:9
 tallied-requires-3 : tie.Need-tallied-requires-3
@@ -66,7 +67,7 @@ tallied-requires-3 c κs = search needs
 
 -- src/steps.rt:288:9
 returns-3 : tie.Need-returns-3
-returns-3 c = frame-lost (record { f1 = c .before .before .before .before .before .before .before .before .before .before .before .before .before .before .before .before .before .before .before .before .before .before .args .f1 .now; marks = c .before .before .before .before .before .before .before .before .before .before .before .before .before .before .before .before .before .before .before .before .before .before .args .marks .now; row = c .before .before .before .before .before .before .before .before .before .before .before .before .before .before .before .before .before .before .before .before .before .before .args .row .now; level = c .before .before .before .before .before .before .before .before .before .before .before .before .before .before .before .before .before .before .before .before .before .before .args .level .now; on = c .before .before .before .before .before .before .before .before .before .before .before .before .before .before .before .before .before .before .before .before .before .before .args .on .now }) (c .before .before .before .before .before .before .before .before .before .before .before .before .before .before .before .before .before .before .before .before .before .before .args .c) (c .before .before .before .before .before .before .before .before .before .before .before .before .before .before .before .before .before .before .before .before .before .before .args .e) (c .before .before .before .before .before .before .before .before .before .before .before .before .before .before .before .before .before .before .before .before .before .before .args .f2) (c .before .before .before .before .before .before .before .before .before .before .before .before .before .before .before .before .before .before .before .before .before .before .args .i) (c .before .before .before .before .before .before .before .before .before .before .before .before .before .before .before .before .before .before .before .before .before .before .args .t) (c .before .before .before .before .before .before .before .before .before .before .before .before .before .before .before .before .before .before .before .before .before .before .pre .0) _ _ (c .before .before .before .before .before .before .before .before .before .before .before .before .purge .ensures) (not-false _ (c .before .before .before .before .before .before .before .before .before .before .before .before .before .before .before .before .before .before .before .if1 .left)) _ (c .before .before .before .before .before .before .marked .ensures) _ (c .before .before .before .is-clear .ensures) _ (not-false _ (c .before .before .if2 .left)) (ne-eqb _ _ (c .before .if3 .taken)) (c .tallied3 .ensures)
+returns-3 c = frame-lost (record { f1 = c .before .before .before .before .before .before .before .before .before .before .before .before .before .before .before .before .before .before .args .f1 .now; marks = c .before .before .before .before .before .before .before .before .before .before .before .before .before .before .before .before .before .before .args .marks .now; row = c .before .before .before .before .before .before .before .before .before .before .before .before .before .before .before .before .before .before .args .row .now; level = c .before .before .before .before .before .before .before .before .before .before .before .before .before .before .before .before .before .before .args .level .now; on = c .before .before .before .before .before .before .before .before .before .before .before .before .before .before .before .before .before .before .args .on .now }) (c .before .before .before .before .before .before .before .before .before .before .before .before .before .before .before .before .before .before .args .c) (pulseOf (c .before .before .before .before .before .before .before .before .before .before .before .before .before .before .before .before .before .before .args .u) (c .before .before .before .before .before .before .before .before .before .before .before .before .before .before .before .before .before .before .args .main) (c .before .before .before .before .before .before .before .before .before .before .before .before .before .before .before .before .before .before .args .value)) (pulseOf (c .before .before .before .before .before .before .before .before .before .before .before .before .before .before .before .before .before .before .args .w) (c .before .before .before .before .before .before .before .before .before .before .before .before .before .before .before .before .before .before .args .main2) (c .before .before .before .before .before .before .before .before .before .before .before .before .before .before .before .before .before .before .args .value2)) (c .before .before .before .before .before .before .before .before .before .before .before .before .before .before .before .before .before .before .args .i) (c .before .before .before .before .before .before .before .before .before .before .before .before .before .before .before .before .before .before .args .t) (c .before .before .before .before .before .before .before .before .before .before .before .before .before .before .before .before .before .before .pre .0) _ _ (c .before .before .before .before .before .before .before .before .before .before .before .purge .ensures) (not-false _ (c .before .before .before .before .before .before .before .before .before .before .before .before .before .before .before .before .before .if1 .left)) _ (c .before .before .before .before .before .marked .ensures) _ (c .before .before .before .is-clear .ensures) _ (not-false _ (c .before .before .if2 .left)) (ne-eqb _ _ (c .before .if3 .taken)) (c .tallied3 .ensures)
 
 -- src/steps.rt:290:5
 open-reply-requires : tie.Need-open-reply-requires
@@ -78,7 +79,7 @@ tallied-requires-4 c κs = search needs
 
 -- src/steps.rt:262:1
 returns-4 : tie.Need-returns-4
-returns-4 c = frame-opens (record { f1 = c .before .before .before .before .before .before .before .before .before .before .before .before .before .before .before .before .before .before .before .before .before .before .before .before .before .before .before .before .args .f1 .now; marks = c .before .before .before .before .before .before .before .before .before .before .before .before .before .before .before .before .before .before .before .before .before .before .before .before .before .before .before .before .args .marks .now; row = c .before .before .before .before .before .before .before .before .before .before .before .before .before .before .before .before .before .before .before .before .before .before .before .before .before .before .before .before .args .row .now; level = c .before .before .before .before .before .before .before .before .before .before .before .before .before .before .before .before .before .before .before .before .before .before .before .before .before .before .before .before .args .level .now; on = c .before .before .before .before .before .before .before .before .before .before .before .before .before .before .before .before .before .before .before .before .before .before .before .before .before .before .before .before .args .on .now }) (c .before .before .before .before .before .before .before .before .before .before .before .before .before .before .before .before .before .before .before .before .before .before .before .before .before .before .before .before .args .c) (c .before .before .before .before .before .before .before .before .before .before .before .before .before .before .before .before .before .before .before .before .before .before .before .before .before .before .before .before .args .e) (c .before .before .before .before .before .before .before .before .before .before .before .before .before .before .before .before .before .before .before .before .before .before .before .before .before .before .before .before .args .f2) (c .before .before .before .before .before .before .before .before .before .before .before .before .before .before .before .before .before .before .before .before .before .before .before .before .before .before .before .before .args .i) (c .before .before .before .before .before .before .before .before .before .before .before .before .before .before .before .before .before .before .before .before .before .before .before .before .before .before .before .before .args .t) (c .before .before .before .before .before .before .before .before .before .before .before .before .before .before .before .before .before .before .before .before .before .before .before .before .before .before .before .before .pre .0) _ _ (c .before .before .before .before .before .before .before .before .before .before .before .before .before .before .before .before .before .before .purge .ensures) (not-false _ (c .before .before .before .before .before .before .before .before .before .before .before .before .before .before .before .before .before .before .before .before .before .before .before .before .before .if1 .left)) _ (c .before .before .before .before .before .before .before .before .before .before .before .before .marked .ensures) _ (c .before .before .before .before .before .before .before .before .before .is-clear .ensures) (c .before .before .before .before .before .before .before .before .before .before .before .before .before .before .before .before .before .before .before .before .before .before .before .before .before .before .before .before .pre .1) _ _ (not-false _ (c .before .before .before .before .before .before .before .before .if2 .left)) (c .before .before .before .before .before .before .before .if3 .left) (c .before .open-reply .ensures) (c .tallied4 .ensures)
+returns-4 c = frame-opens (record { f1 = c .before .before .before .before .before .before .before .before .before .before .before .before .before .before .before .before .before .before .before .before .before .before .before .before .args .f1 .now; marks = c .before .before .before .before .before .before .before .before .before .before .before .before .before .before .before .before .before .before .before .before .before .before .before .before .args .marks .now; row = c .before .before .before .before .before .before .before .before .before .before .before .before .before .before .before .before .before .before .before .before .before .before .before .before .args .row .now; level = c .before .before .before .before .before .before .before .before .before .before .before .before .before .before .before .before .before .before .before .before .before .before .before .before .args .level .now; on = c .before .before .before .before .before .before .before .before .before .before .before .before .before .before .before .before .before .before .before .before .before .before .before .before .args .on .now }) (c .before .before .before .before .before .before .before .before .before .before .before .before .before .before .before .before .before .before .before .before .before .before .before .before .args .c) (pulseOf (c .before .before .before .before .before .before .before .before .before .before .before .before .before .before .before .before .before .before .before .before .before .before .before .before .args .u) (c .before .before .before .before .before .before .before .before .before .before .before .before .before .before .before .before .before .before .before .before .before .before .before .before .args .main) (c .before .before .before .before .before .before .before .before .before .before .before .before .before .before .before .before .before .before .before .before .before .before .before .before .args .value)) (pulseOf (c .before .before .before .before .before .before .before .before .before .before .before .before .before .before .before .before .before .before .before .before .before .before .before .before .args .w) (c .before .before .before .before .before .before .before .before .before .before .before .before .before .before .before .before .before .before .before .before .before .before .before .before .args .main2) (c .before .before .before .before .before .before .before .before .before .before .before .before .before .before .before .before .before .before .before .before .before .before .before .before .args .value2)) (c .before .before .before .before .before .before .before .before .before .before .before .before .before .before .before .before .before .before .before .before .before .before .before .before .args .i) (c .before .before .before .before .before .before .before .before .before .before .before .before .before .before .before .before .before .before .before .before .before .before .before .before .args .t) (c .before .before .before .before .before .before .before .before .before .before .before .before .before .before .before .before .before .before .before .before .before .before .before .before .pre .0) _ _ (c .before .before .before .before .before .before .before .before .before .before .before .before .before .before .before .before .before .purge .ensures) (not-false _ (c .before .before .before .before .before .before .before .before .before .before .before .before .before .before .before .before .before .before .before .before .before .before .before .if1 .left)) _ (c .before .before .before .before .before .before .before .before .before .before .before .marked .ensures) _ (c .before .before .before .before .before .before .before .before .before .is-clear .ensures) (c .before .before .before .before .before .before .before .before .before .before .before .before .before .before .before .before .before .before .before .before .before .before .before .before .pre .1) _ _ (not-false _ (c .before .before .before .before .before .before .before .before .if2 .left)) (c .before .before .before .before .before .before .before .if3 .left) (c .before .open-reply .ensures) (c .tallied4 .ensures)
 
 pub frame-spec : {M : Type 1} → statement M
 frame-spec =

@@ -1,3 +1,4 @@
+use Rattle.machine.specs.Places.{pulseOf}
 use Rattle.hearing.proofs.Dealing.{deal-none, deal-one, deal-law}
 use borrow.Author.Tests.{not-true, not-false}
 use borrow.Author.Needs.{needs}
@@ -53,7 +54,7 @@ any4-requires c κs = search needs
 
 -- src/steps.rt:428:9
 returns : tie.Need-returns
-returns c = deal-none (c .before .before .before .before .before .before .before .before .before .before .args .f1 .now) (c .before .before .before .before .before .before .before .before .before .before .args .row .now) (c .before .before .before .before .before .before .before .before .before .before .args .level .now) (c .before .before .before .before .before .before .before .before .before .before .args .on .now) (c .before .before .before .before .before .before .before .before .before .before .args .e) (c .before .before .before .before .before .before .before .before .before .before .args .i) (c .before .before .before .before .before .before .before .before .before .before .pre) _ _ _ _ _ (c .before .before .before .before .before .before .before .before .marked .ensures) (c .before .before .before .before .before .before .marked2 .ensures) (c .before .before .before .before .marked3 .ensures) (c .before .before .marked4 .ensures) (c .before .any4 .ensures) (not-true _ (c .if1 .taken))
+returns c = deal-none (c .before .before .before .before .before .before .before .before .before .before .args .f1 .now) (c .before .before .before .before .before .before .before .before .before .before .args .row .now) (c .before .before .before .before .before .before .before .before .before .before .args .level .now) (c .before .before .before .before .before .before .before .before .before .before .args .on .now) (pulseOf (c .before .before .before .before .before .before .before .before .before .before .args .u) (c .before .before .before .before .before .before .before .before .before .before .args .main) (c .before .before .before .before .before .before .before .before .before .before .args .value)) (c .before .before .before .before .before .before .before .before .before .before .args .i) (c .before .before .before .before .before .before .before .before .before .before .pre) _ _ _ _ _ (c .before .before .before .before .before .before .before .before .marked .ensures) (c .before .before .before .before .before .before .marked2 .ensures) (c .before .before .before .before .marked3 .ensures) (c .before .before .marked4 .ensures) (c .before .any4 .ensures) (not-true _ (c .if1 .taken))
 
 -- src/steps.rt:430:16
 twice-requires : tie.Need-twice-requires
@@ -85,7 +86,7 @@ hear-requires c κs = search needs
 
 -- src/steps.rt:434:9
 returns-2 : tie.Need-returns-2
-returns-2 c = deal-one (c .before .before .before .before .before .before .before .before .before .before .before .before .before .before .before .before .before .before .before .args .f1 .now) (c .before .before .before .before .before .before .before .before .before .before .before .before .before .before .before .before .before .before .before .args .row .now) (c .before .before .before .before .before .before .before .before .before .before .before .before .before .before .before .before .before .before .before .args .level .now) (c .before .before .before .before .before .before .before .before .before .before .before .before .before .before .before .before .before .before .before .args .on .now) (c .before .before .before .before .before .before .before .before .before .before .before .before .before .before .before .before .before .before .before .args .e) (c .before .before .before .before .before .before .before .before .before .before .before .before .before .before .before .before .before .before .before .args .i) (c .before .before .before .before .before .before .before .before .before .before .before .before .before .before .before .before .before .before .before .pre) _ _ _ _ _ _ _ _ _ _ _ (c .before .before .before .before .before .before .before .before .before .before .before .before .before .before .before .before .before .marked .ensures) (c .before .before .before .before .before .before .before .before .before .before .before .before .before .before .before .marked2 .ensures) (c .before .before .before .before .before .before .before .before .before .before .before .before .before .marked3 .ensures) (c .before .before .before .before .before .before .before .before .before .before .before .marked4 .ensures) (c .before .before .before .before .before .before .before .before .before .before .any4 .ensures) (not-false _ (c .before .before .before .before .before .before .before .before .before .if1 .left)) (c .before .before .before .before .before .before .before .before .twice .ensures) (c .before .before .before .before .before .before .before .marked5 .ensures) (not-true _ (c .before .before .before .before .before .before .if2 .taken)) (c .before .before .before .before .before .which .ensures .0) (c .before .before .before .near .ensures) (c .hear .ensures)
+returns-2 c = deal-one (c .before .before .before .before .before .before .before .before .before .before .before .before .before .before .before .before .before .before .before .args .f1 .now) (c .before .before .before .before .before .before .before .before .before .before .before .before .before .before .before .before .before .before .before .args .row .now) (c .before .before .before .before .before .before .before .before .before .before .before .before .before .before .before .before .before .before .before .args .level .now) (c .before .before .before .before .before .before .before .before .before .before .before .before .before .before .before .before .before .before .before .args .on .now) (pulseOf (c .before .before .before .before .before .before .before .before .before .before .before .before .before .before .before .before .before .before .before .args .u) (c .before .before .before .before .before .before .before .before .before .before .before .before .before .before .before .before .before .before .before .args .main) (c .before .before .before .before .before .before .before .before .before .before .before .before .before .before .before .before .before .before .before .args .value)) (c .before .before .before .before .before .before .before .before .before .before .before .before .before .before .before .before .before .before .before .args .i) (c .before .before .before .before .before .before .before .before .before .before .before .before .before .before .before .before .before .before .before .pre) _ _ _ _ _ _ _ _ _ _ _ (c .before .before .before .before .before .before .before .before .before .before .before .before .before .before .before .before .before .marked .ensures) (c .before .before .before .before .before .before .before .before .before .before .before .before .before .before .before .marked2 .ensures) (c .before .before .before .before .before .before .before .before .before .before .before .before .before .marked3 .ensures) (c .before .before .before .before .before .before .before .before .before .before .before .marked4 .ensures) (c .before .before .before .before .before .before .before .before .before .before .any4 .ensures) (not-false _ (c .before .before .before .before .before .before .before .before .before .if1 .left)) (c .before .before .before .before .before .before .before .before .twice .ensures) (c .before .before .before .before .before .before .before .marked5 .ensures) (not-true _ (c .before .before .before .before .before .before .if2 .taken)) (c .before .before .before .before .before .which .ensures .0) (c .before .before .before .near .ensures) (c .hear .ensures)
 
 -- src/steps.rt:436:9
 speaks-requires : tie.Need-speaks-requires
@@ -137,7 +138,7 @@ hear-if-requires-4 c κs = search needs
 
 -- src/steps.rt:412:1
 returns-3 : tie.Need-returns-3
-returns-3 c = deal-law (c .before .before .before .before .before .before .before .before .before .before .before .before .before .before .before .before .before .before .before .before .before .before .before .before .before .before .before .before .before .before .before .before .before .before .before .before .before .args .f1 .now) (c .before .before .before .before .before .before .before .before .before .before .before .before .before .before .before .before .before .before .before .before .before .before .before .before .before .before .before .before .before .before .before .before .before .before .before .before .before .args .row .now) (c .before .before .before .before .before .before .before .before .before .before .before .before .before .before .before .before .before .before .before .before .before .before .before .before .before .before .before .before .before .before .before .before .before .before .before .before .before .args .level .now) (c .before .before .before .before .before .before .before .before .before .before .before .before .before .before .before .before .before .before .before .before .before .before .before .before .before .before .before .before .before .before .before .before .before .before .before .before .before .args .on .now) (c .before .before .before .before .before .before .before .before .before .before .before .before .before .before .before .before .before .before .before .before .before .before .before .before .before .before .before .before .before .before .before .before .before .before .before .before .before .args .e) (c .before .before .before .before .before .before .before .before .before .before .before .before .before .before .before .before .before .before .before .before .before .before .before .before .before .before .before .before .before .before .before .before .before .before .before .before .before .args .i) (c .before .before .before .before .before .before .before .before .before .before .before .before .before .before .before .before .before .before .before .before .before .before .before .before .before .before .before .before .before .before .before .before .before .before .before .before .before .pre) _ _ _ _ _ _ _ _ _ _ _ _ _ _ _ _ _ _ _ _ (record { e0 = c .before .before .before .before .before .before .before .before .before .before .before .before .before .before .before .before .before .before .before .before .before .before .before .before .before .before .before .before .before .before .before .before .before .before .before .marked .ensures; e1 = c .before .before .before .before .before .before .before .before .before .before .before .before .before .before .before .before .before .before .before .before .before .before .before .before .before .before .before .before .before .before .before .before .before .marked2 .ensures; e2 = c .before .before .before .before .before .before .before .before .before .before .before .before .before .before .before .before .before .before .before .before .before .before .before .before .before .before .before .before .before .before .before .marked3 .ensures; e3 = c .before .before .before .before .before .before .before .before .before .before .before .before .before .before .before .before .before .before .before .before .before .before .before .before .before .before .before .before .before .marked4 .ensures; t0 = c .before .before .before .before .before .before .before .before .before .before .before .before .before .before .before .before .before .before .before .before .before .before .speaks .ensures; t1 = c .before .before .before .before .before .before .before .before .before .before .before .before .before .before .before .before .before .before .before .before .speaks2 .ensures; t2 = c .before .before .before .before .before .before .before .before .before .before .before .before .before .before .before .before .before .before .speaks3 .ensures; t3 = c .before .before .before .before .before .before .before .before .before .before .before .before .before .before .before .before .speaks4 .ensures; r0 = c .before .before .before .before .before .before .before .before .before .before .before .before .before .any3 .ensures; r1 = c .before .before .before .before .before .before .before .before .before .any32 .ensures; r2 = c .before .before .before .before .before .any33 .ensures; r3 = c .before .any34 .ensures; h0 = c .before .before .before .before .before .before .before .before .before .before .before .before .hear-if .ensures; h1 = c .before .before .before .before .before .before .before .before .hear-if2 .ensures; h2 = c .before .before .before .before .hear-if3 .ensures; h3 = c .hear-if4 .ensures })
+returns-3 c = deal-law (c .before .before .before .before .before .before .before .before .before .before .before .before .before .before .before .before .before .before .before .before .before .before .before .before .before .before .before .before .before .before .before .before .before .before .before .before .before .args .f1 .now) (c .before .before .before .before .before .before .before .before .before .before .before .before .before .before .before .before .before .before .before .before .before .before .before .before .before .before .before .before .before .before .before .before .before .before .before .before .before .args .row .now) (c .before .before .before .before .before .before .before .before .before .before .before .before .before .before .before .before .before .before .before .before .before .before .before .before .before .before .before .before .before .before .before .before .before .before .before .before .before .args .level .now) (c .before .before .before .before .before .before .before .before .before .before .before .before .before .before .before .before .before .before .before .before .before .before .before .before .before .before .before .before .before .before .before .before .before .before .before .before .before .args .on .now) (pulseOf (c .before .before .before .before .before .before .before .before .before .before .before .before .before .before .before .before .before .before .before .before .before .before .before .before .before .before .before .before .before .before .before .before .before .before .before .before .before .args .u) (c .before .before .before .before .before .before .before .before .before .before .before .before .before .before .before .before .before .before .before .before .before .before .before .before .before .before .before .before .before .before .before .before .before .before .before .before .before .args .main) (c .before .before .before .before .before .before .before .before .before .before .before .before .before .before .before .before .before .before .before .before .before .before .before .before .before .before .before .before .before .before .before .before .before .before .before .before .before .args .value)) (c .before .before .before .before .before .before .before .before .before .before .before .before .before .before .before .before .before .before .before .before .before .before .before .before .before .before .before .before .before .before .before .before .before .before .before .before .before .args .i) (c .before .before .before .before .before .before .before .before .before .before .before .before .before .before .before .before .before .before .before .before .before .before .before .before .before .before .before .before .before .before .before .before .before .before .before .before .before .pre) _ _ _ _ _ _ _ _ _ _ _ _ _ _ _ _ _ _ _ _ (record { e0 = c .before .before .before .before .before .before .before .before .before .before .before .before .before .before .before .before .before .before .before .before .before .before .before .before .before .before .before .before .before .before .before .before .before .before .before .marked .ensures; e1 = c .before .before .before .before .before .before .before .before .before .before .before .before .before .before .before .before .before .before .before .before .before .before .before .before .before .before .before .before .before .before .before .before .before .marked2 .ensures; e2 = c .before .before .before .before .before .before .before .before .before .before .before .before .before .before .before .before .before .before .before .before .before .before .before .before .before .before .before .before .before .before .before .marked3 .ensures; e3 = c .before .before .before .before .before .before .before .before .before .before .before .before .before .before .before .before .before .before .before .before .before .before .before .before .before .before .before .before .before .marked4 .ensures; t0 = c .before .before .before .before .before .before .before .before .before .before .before .before .before .before .before .before .before .before .before .before .before .before .speaks .ensures; t1 = c .before .before .before .before .before .before .before .before .before .before .before .before .before .before .before .before .before .before .before .before .speaks2 .ensures; t2 = c .before .before .before .before .before .before .before .before .before .before .before .before .before .before .before .before .before .before .speaks3 .ensures; t3 = c .before .before .before .before .before .before .before .before .before .before .before .before .before .before .before .before .speaks4 .ensures; r0 = c .before .before .before .before .before .before .before .before .before .before .before .before .before .any3 .ensures; r1 = c .before .before .before .before .before .before .before .before .before .any32 .ensures; r2 = c .before .before .before .before .before .any33 .ensures; r3 = c .before .any34 .ensures; h0 = c .before .before .before .before .before .before .before .before .before .before .before .before .hear-if .ensures; h1 = c .before .before .before .before .before .before .before .before .hear-if2 .ensures; h2 = c .before .before .before .before .hear-if3 .ensures; h3 = c .hear-if4 .ensures })
 
 pub deal-spec : {M : Type 1} → statement M
 deal-spec =
