@@ -33,7 +33,7 @@ use Rattle.front.specs.Post.{AdvancePost, SpanPost, TopPost, still}
 use Rattle.blocks.specs.Steps.{bare, Waits, Stays, BlockPost, runOf}
 use Rattle.front.proofs.Advancing.{advance-law}
 use Rattle.front.proofs.Spans.{span-law}
-use Rattle.blocks.proofs.Working.{Working, Late, Works, work-start, end-early, end-late, plain-end}
+use Rattle.blocks.proofs.Working.{Working, Late, Works, work-none as none-to-work, end-early, end-late, plain-end}
 use Rattle.blocks.proofs.BlockLaws.{fed-next}
 
 -- ---- zero words
@@ -171,11 +171,11 @@ top-zero : (r : ℕ) → TopPost 0 r 0
 top-zero r = record { below = omega arith; clear = λ i h. zero-bit i; same = λ i h l. refl }
 
 -- nothing is handed out while the first reply is open
-late-none : (X : Type 0) (m : Machine) (s : Span) (r t : ℕ) (recent : List ℕ) (base : ℕ) (values : List ℕ) (at : ℕ) (b : List ℕ)
-    (w : Working X m s r t recent base values at b b m at 0) → test (ended (t - 179)) (m .places .p0) ≡ false
-    → Late X m s r t recent base values at b b m at w (record { machine = m; at = at }) b
+late-none : (X : Type 0) (m : Machine) (s : Span) (r t : ℕ) (recent : List ℕ) (base : ℕ) (values : List ℕ) (at : ℕ) (b : List ℕ) (k : ℕ)
+    (w : Working X m s r t recent base values at b b m at 0 k) → test (ended (t - 179)) (m .places .p0) ≡ false
+    → Late X m s r t recent base values at b b m at k w (record { machine = m; at = at }) b
 unfolding records
-late-none X m s r t recent base values at b w e =
+late-none X m s r t recent base values at b k w e =
     record {
       same = refl;
       inside = λ h. h;
@@ -198,13 +198,13 @@ work-none m s r t recent base values at b h top waits = go (leb 179 t) refl
     go : (c : Bool) → leb 179 t ≡ c → Works (Unit {0}) m s r t recent base values at b (record { machine = m; at = at }) b
     go true e =
         let l = leb-true 179 t e in
-        let w = work-start (Unit {0}) m s r t recent base values at b 0 h top in
+        let w = none-to-work (Unit {0}) m s r t recent base values at b h top in
         plain-end m s r t recent base values at b (record { machine = m; at = at }) b
-        (end-late (Unit {0}) m s r t recent base values at b b m at w (record { machine = m; at = at }) b l
-        (late-none (Unit {0}) m s r t recent base values at b w (waits .open-still l)))
+        (end-late (Unit {0}) m s r t recent base values at b b m at (64 - r) w (record { machine = m; at = at }) b l
+        (late-none (Unit {0}) m s r t recent base values at b (64 - r) w (waits .open-still l)))
     go false e =
-        let w = work-start (Unit {0}) m s r t recent base values at b 0 h top in
-        plain-end m s r t recent base values at b (record { machine = m; at = at }) b (end-early (Unit {0}) m s r t recent base values at b b m at w (leb-false 179 t e))
+        let w = none-to-work (Unit {0}) m s r t recent base values at b h top in
+        plain-end m s r t recent base values at b (record { machine = m; at = at }) b (end-early (Unit {0}) m s r t recent base values at b b m at (64 - r) w (leb-false 179 t e))
 
 -- the first column, idle or open, has nothing due
 waits-none : (x : Rows) (c : Counts) (t : ℕ) → Waits (x .f1) t → NoneDue (machineAt x c) t

@@ -2,22 +2,26 @@
 use Prim.Native.Nat.{ℕ, suc, _+_, _-_, _*_, _≤_, _<_}
 use native.Mathlib.Omega.{arith}
 use mathlib.Core.Path.{_≡_, refl, sym, ap, _∙_, subst}
-use mathlib.Core.Bool.{Bool, true, false, _||_, cond}
-use mathlib.Core.List.{List}
+use mathlib.Core.Bool.{Bool, true, false, _&&_, _||_, cond}
+use mathlib.Core.List.{List, [], _∷_}
+use lib.Dec.{ltb}
+use lib.Bits.{bitAnd, bitOr}
 use lib.ListN.{length, getD}
 use lib.Ieee.{Float}
+use borrow.Author.Tests.{ltb-true, ltb-false}
+use Rattle.rules.specs.declared.Reply.{Reply}
 use Rattle.rules.specs.declared.Counts.{Counts}
 use Rattle.rules.specs.declared.Pulse.{Pulse}
 use Rattle.rules.specs.declared.Bracket.{Bracket}
 use Rattle.rules.specs.declared.Bracket.the-variants.{Without, With}
 use Rattle.rules.specs.Settings.{standard}
-use Rattle.rules.specs.Lists.{filter, reject}
+use Rattle.rules.specs.Lists.{All, filter, reject}
 use Rattle.rules.specs.Samples.{Trace}
 use Rattle.rules.specs.Edges.{stands, edgeAt}
 use Rattle.rules.specs.Ranges.{Ranged}
-use Rattle.rules.specs.Replies.{ended}
+use Rattle.rules.specs.Replies.{ended, covers}
 use Rattle.rules.specs.Machine.{State, retired, bracketAt}
-use Rattle.rules.proofs.Truth.{or-left, or-right}
+use Rattle.rules.proofs.Truth.{impossible, or-left, or-right}
 use Rattle.rules.proofs.ListLaws.{all-reject, reject-short}
 use Rattle.rules.proofs.Order.{ordered}
 use Rattle.rules.proofs.Outcomes.{after-balanced, after-found}
@@ -26,23 +30,23 @@ use Rattle.rules.proofs.Settled.{edge-timed}
 use Rattle.rules.proofs.Skipping.{visit}
 use Rattle.rules.proofs.EachReply.{value-byte, framing, framed-byte, ranged-each}
 use Rattle.replies.specs.Sums.{wrapped}
-use Rattle.machine.specs.Places.{pulseOf, any3, dealt, bracketIf, stepOn, placed, machineOf}
+use Rattle.machine.specs.Places.{pulseOf, test, any3, dealt, bracketIf, stepOn, placeAt, placed, machineOf}
 use Rattle.machine.proofs.Steps.{balanced-small, edge-post}
 use Rattle.machine.specs.Post.{Small, f2Value, Fits, EdgePost}
 use Rattle.records.specs.Post.{Queue}
 use Rattle.records.proofs.Handing.{ordered-queue}
-use Rattle.plane.specs.Words.{bit}
-use Rattle.columns.specs.Columns.{Rows, Sized, placesOf, machineAt}
+use Rattle.plane.specs.Words.{bit, WithoutLowest}
+use Rattle.plane.proofs.BitLaws.{bit-and, bit-or}
+use Rattle.columns.specs.Columns.{Rows, Sized, placeIn, placesIn, placesOf, machineAt}
 use Rattle.columns.specs.Masks.{AllMasked}
 use Rattle.lanes.specs.Post.{HandPost}
 use Rattle.framing.specs.Post.{f2Tick, FramePost, BracketPost}
 use Rattle.hearing.specs.Post.{DealPost}
 use Rattle.columns.proofs.Holding.{masked-rows}
 use Rattle.framing.proofs.Framing.{bracket-none as no-bracket, bracket-there as bracket-framed}
-use Rattle.hearing.proofs.Dealing.{deal-none}
 use Rattle.front.specs.declared.span.Span.{Span}
-use Rattle.blocks.specs.Steps.{stateAt, Bounded, Shows, Went, VisitPost}
-use Rattle.front.specs.Post.{valueOf, pulseIn, bracketIn}
+use Rattle.blocks.specs.Steps.{stateAt, Bounded, Shows, Passes, Went, VisitPost, wantedIn, Wanted, Rest}
+use Rattle.front.specs.Post.{AbovePost, valueOf, pulseIn, framedIn, bracketIn}
 use Rattle.rules.proofs.Answers.{standard-allowed}
 use Rattle.front.proofs.Spans.{span-pulse, span-bracket, bracket-none, bracket-there}
 
@@ -96,8 +100,18 @@ f2-low s i u recent base values h = go (bit (s .at168) i) (bit (s .at167) i) (bi
     go false false true = omega arith
     go false false false = omega arith
 
+-- no open reply passes a test that no place passes
+none-placed : (p : Reply → Bool) (l : List Reply) → length l ≤ 4 → test p (placeAt 0 l) ≡ false → test p (placeAt 1 l) ≡ false → test p (placeAt 2 l) ≡ false
+    → test p (placeAt 3 l) ≡ false → All (λ r. p r ≡ false) l
+none-placed p [] h a b c d = tt
+none-placed p (q ∷ []) h a b c d = (a, tt)
+none-placed p (q ∷ r ∷ []) h a b c d = (a, (b, tt))
+none-placed p (q ∷ r ∷ s ∷ []) h a b c d = (a, (b, (c, tt)))
+none-placed p (q ∷ r ∷ s ∷ t ∷ []) h a b c d = (a, (b, (c, (d, tt))))
+none-placed p (q ∷ r ∷ s ∷ t ∷ u ∷ l) h a b c d = absurd (omega (arith, h))
+
 -- the columns of a state
-live-places : (x : Rows) (c : Counts) (S : State) → machineAt x c ≡ machineOf S → placesOf x ≡ placed (S .live)
+pub live-places : (x : Rows) (c : Counts) (S : State) → machineAt x c ≡ machineOf S → placesOf x ≡ placed (S .live)
 live-places x c S e = λ i. e i .places
 
 module _ (x : Rows) (c : Counts) (s : Span) (i t : ℕ) (recent : List ℕ) (base : ℕ) (values : List ℕ) (at : ℕ) (b : List ℕ) (x₁ : Rows) (r : ℕ) (b′ : List ℕ) (x₂ : Rows) (c′ : Counts)
@@ -112,7 +126,7 @@ module _ (x : Rows) (c : Counts) (s : Span) (i t : ℕ) (recent : List ℕ) (bas
     pub deals : DealPost (x₂ .f1) (x₂ .row) (x₂ .level) (x₂ .on) (pulseIn (s .main) i u (valueOf recent base values (u + 1))) i w′ v′
 
   visited : (u : ℕ) → i < 64 → u < 65536 → t < 65000 → Visited u → Sized x → AllMasked t x → (T : Trace) → Shows T t s recent base values → t + i ≡ u + 242
-      → stands (edgeAt standard T u) ≡ true → (k : ℕ) → k ≤ u → ((j : ℕ) → k ≤ j → j < u → stands (edgeAt standard T j) ≡ false) → machineAt x c ≡ machineOf (stateAt T k)
+      → stands (edgeAt standard T u) ≡ true → (k : ℕ) → k ≤ u → ((j : ℕ) → k ≤ j → j < u → Passes T (stateAt T k .live) j) → machineAt x c ≡ machineOf (stateAt T k)
       → at + 18 * length (filter (ended u) (stateAt T k .live)) ≤ length b → Went (filter (ended u) (stateAt T k .live)) (stateAt T (suc u)) t at b left c′ r b′
   unfolding stepOn retired
   visited u li lu lt h sized masked T sh z st k le none′ is room =
@@ -139,7 +153,7 @@ module _ (x : Rows) (c : Counts) (s : Span) (i t : ℕ) (recent : List ℕ) (bas
       record {
         gives =
             record {
-              machine = post .result (retired u S) is₁ (fits T (sh .bounded) k u le st) ∙ ap machineOf (visit standard E (edge-timed standard T) k u le none′ st);
+              machine = post .result (retired u S) is₁ (fits T (sh .bounded) k u le st) ∙ ap machineOf (visit standard E (edge-timed standard T) k u le (λ j a d. none′ j a d .edge) st);
               place = g .place;
               buffer = g .buffer;
             };
@@ -172,29 +186,74 @@ module _ (s : Span) (i u value : ℕ) (main : Bool) (recent : List ℕ) (base : 
 
 -- where a bracket stands
 pub bracket-some : (x : Rows) (c : Counts) (e : Pulse) (s : Span) (i t u : ℕ) (recent : List ℕ) (base : ℕ) (values : List ℕ) (x′ : Rows) (c′ : Counts) (there main : Bool) (d value : ℕ)
-    → there ≡ (bit (s .at168) i || (bit (s .at167) i || bit (s .at169) i)) → there ≡ true
+    → there ≡ framedIn s i → there ≡ true
     → main ≡ cond (bit (s .at168) i) (bit (s .main168) i) (cond (bit (s .at167) i) (bit (s .main167) i) (bit (s .main169) i)) → d ≡ cond (bit (s .at168) i) 168 (cond (bit (s .at167) i) 167 169)
     → value ≡ valueOf recent base values (u + d + 1) → FramePost x c e (pulseOf (u + d) main value) i t x′ c′ → BracketPost x c e (bracketIn s i u recent base values) i t x′ c′
 bracket-some x c e s i t u recent base values x′ c′ there main d value et on em ed ev =
     bracket-framed x c e (bracketIn s i u recent base values) (pulseOf (u + d) main value) i t x′ c′ (sym (bracket-there s i u recent base values there main d value et on em ed ev))
 
 pub bracket-not : (x : Rows) (c : Counts) (e : Pulse) (s : Span) (i t u : ℕ) (recent : List ℕ) (base : ℕ) (values : List ℕ) (there : Bool)
-    → there ≡ (bit (s .at168) i || (bit (s .at167) i || bit (s .at169) i)) → there ≡ false → BracketPost x c e (bracketIn s i u recent base values) i t x c
+    → there ≡ framedIn s i → there ≡ false → BracketPost x c e (bracketIn s i u recent base values) i t x c
 bracket-not x c e s i t u recent base values there et off =
     no-bracket x c e (bracketIn s i u recent base values) i t (sym (bracket-none s i u recent base values there et off))
 
--- an edge without a bracket that no column covers
-pub visit-skip : (x : Rows) (c : Counts) (s : Span) (i t : ℕ) (recent : List ℕ) (base : ℕ) (values : List ℕ) (at : ℕ) (b : List ℕ) (x₁ : Rows) (r : ℕ) (b′ : List ℕ) (u : ℕ) → i < 64
-    → u < 65536 → t < 65000 → ((v : ℕ) → t + i ≡ v + 242 → u ≡ v) → HandPost x u at b x₁ r b′ → (f o : Bool) → f ≡ (bit (s .at168) i || (bit (s .at167) i || bit (s .at169) i))
-    → o ≡ (bit (getD (x₁ .on) 0 0) i || any3 (bit (getD (x₁ .on) 1 0) i) (bit (getD (x₁ .on) 2 0) i) (bit (getD (x₁ .on) 3 0) i)) → (f || o) ≡ false
-    → VisitPost x c s i t recent base values at b x₁ c r b′
-visit-skip x c s i t recent base values at b x₁ r b′ u li lu lt tick h f o ef eo off =
-    let P = pulseIn (s .main) i u (valueOf recent base values (u + 1)) in
-    visit-law x c s i t recent base values at b x₁ r b′ x₁ c (x₁ .row) (x₁ .level) u li lu lt tick
-    (record {
-      retires = h;
-      brackets = bracket-not x₁ c P s i t u recent base values f ef (or-left f o off);
-      deals =
-          deal-none (x₁ .f1) (x₁ .row) (x₁ .level) (x₁ .on) P i li (bit (getD (x₁ .on) 0 0) i) (bit (getD (x₁ .on) 1 0) i) (bit (getD (x₁ .on) 2 0) i) (bit (getD (x₁ .on) 3 0) i) o refl refl
-          refl refl eo (or-right f o off);
-    })
+-- ---- the ticks to visit
+
+no-more : (b : Bool) → b ≡ (b || false)
+no-more true = refl
+no-more false = refl
+
+pub wanted-law : (s : Span) (on : List ℕ) (x : ℕ)
+    → Wanted s on x (bitAnd x (bitOr (bitOr (s .at168) (bitOr (s .at167) (s .at169))) (bitOr (getD on 0 0) (bitOr (getD on 1 0) (bitOr (getD on 2 0) (getD on 3 0))))))
+wanted-law s on x =
+    let B = bitOr (s .at168) (bitOr (s .at167) (s .at169)) in
+    let C = bitOr (getD on 0 0) (bitOr (getD on 1 0) (bitOr (getD on 2 0) (getD on 3 0))) in
+    record {
+      at = λ i.
+          let framed : bit B i ≡ framedIn s i = bit-or (s .at168) (bitOr (s .at167) (s .at169)) i ∙ ap (λ (b : Bool). bit (s .at168) i || b) (bit-or (s .at167) (s .at169) i) in
+          let last = bit-or (getD on 2 0) (getD on 3 0) i ∙ ap (λ (b : Bool). bit (getD on 2 0) i || b) (no-more (bit (getD on 3 0) i)) in
+          let covered : bit C i ≡ (bit (getD on 0 0) i || any3 (bit (getD on 1 0) i) (bit (getD on 2 0) i) (bit (getD on 3 0) i)) =
+          bit-or (getD on 0 0) (bitOr (getD on 1 0) (bitOr (getD on 2 0) (getD on 3 0))) i
+          ∙ ap (λ (b : Bool). bit (getD on 0 0) i || b) (bit-or (getD on 1 0) (bitOr (getD on 2 0) (getD on 3 0)) i ∙ ap (λ (b : Bool). bit (getD on 1 0) i || b) last) in
+          bit-and x (bitOr B C) i ∙ ap (λ (b : Bool). bit x i && b) (bit-or B C i ∙ (λ k. framed k || covered k));
+    }
+
+pub rest-plain : (s : Span) (on : List ℕ) (x y i z : ℕ) (there : Bool) → there ≡ framedIn s i → there ≡ false → WithoutLowest y z → Rest s on x y i z
+rest-plain s on x y i z there e off w = record { framed = λ f. absurd (impossible (sym f ∙ sym e ∙ off)); plain = λ f. w }
+
+pub rest-framed : (s : Span) (on : List ℕ) (x y i a z : ℕ) (there : Bool) → there ≡ framedIn s i → there ≡ true → AbovePost x i a → Wanted s on a z → Rest s on x y i z
+rest-framed s on x y i a z there e on′ h w =
+    record {
+      framed = λ f j l. w .at j ∙ go (ltb i j) j refl l;
+      plain = λ f. absurd (impossible (sym on′ ∙ e ∙ f));
+    }
+  where
+    go : (b : Bool) (j : ℕ) → ltb i j ≡ b → j < 64 → (bit a j && wantedIn s on j) ≡ (b && (bit x j && wantedIn s on j))
+    go true j q l = ap (λ (c : Bool). c && wantedIn s on j) (h .same j (ltb-true i j q) l)
+    go false j q l = ap (λ (c : Bool). c && wantedIn s on j) (h .clear j (ltb-false i j q))
+
+-- a tick of the span that is not to be visited
+module _ (T : Trace) (s : Span) (t : ℕ) (recent : List ℕ) (base : ℕ) (values : List ℕ) (sh : Shows T t s recent base values) (i u : ℕ) (li : i < 64) (z : t + i ≡ u + 242) where
+  pub unframed : framedIn s i ≡ false → bracketAt standard (edgeAt standard T) u ≡ Without
+  unframed h =
+      sym (bracket-none s i u recent base values (framedIn s i) refl h ∙ span-bracket T s t (sh .spanned) recent base values (sh .reads) i u li z)
+
+  pub unwanted : (x : Rows) (l : List Reply) → AllMasked t x → placesOf x ≡ placed l → length l ≤ 4 → wantedIn s (x .on) i ≡ false
+      → (bracketAt standard (edgeAt standard T) u ≡ Without) × All (λ r. covers u r ≡ false) l
+  unfolding placesIn placeIn
+  unwanted x l masked is four h =
+      let c0 = bit (getD (x .on) 0 0) i in
+      let c1 = bit (getD (x .on) 1 0) i in
+      let c2 = bit (getD (x .on) 2 0) i in
+      let c3 = bit (getD (x .on) 3 0) i in
+      let h₀ = or-right (framedIn s i) (c0 || any3 c1 c2 c3) h in
+      let h₁ = or-right c0 (any3 c1 c2 c3) h₀ in
+      let h₂ = or-right c1 (c2 || (c3 || false)) h₁ in
+      let h₃ = or-right c2 (c3 || false) h₂ in (
+        unframed (or-left (framedIn s i) (c0 || any3 c1 c2 c3) h),
+        none-placed (covers u) l four
+            (ap (test (covers u)) (λ k. sym is k .p0) ∙ sym (masked .at 0 (omega arith) .cover i u li z) ∙ or-left c0 (any3 c1 c2 c3) h₀)
+            (ap (test (covers u)) (λ k. sym is k .p1) ∙ sym (masked .at 1 (omega arith) .cover i u li z) ∙ or-left c1 (c2 || (c3 || false)) h₁)
+            (ap (test (covers u)) (λ k. sym is k .p2) ∙ sym (masked .at 2 (omega arith) .cover i u li z) ∙ or-left c2 (c3 || false) h₂)
+            (ap (test (covers u)) (λ k. sym is k .p3) ∙ sym (masked .at 3 (omega arith) .cover i u li z) ∙ or-left c3 false h₃),
+      )

@@ -1,33 +1,35 @@
 -- What the functions of a piece answer, for the trace that their words and values belong to.
 use Prim.Native.Nat.{ℕ, suc, _+_, _-_, _*_, _≤_, _<_}
-use mathlib.Core.Bool.{Bool, true, false, _&&_}
+use mathlib.Core.Bool.{Bool, true, false, _&&_, _||_}
 use mathlib.Core.List.{List, _++_}
 use mathlib.Core.Path.{_≡_}
-use lib.Dec.{eqb}
+use lib.Dec.{eqb, ltb}
 use lib.ListN.{length, getD}
 use Rattle.rules.specs.declared.Reply.{Reply}
 use Rattle.rules.specs.declared.Machine.{Machine}
+use Rattle.rules.specs.declared.Bracket.the-variants.{Without}
 use Rattle.rules.specs.Settings.{standard}
 use Rattle.rules.specs.Lists.{All, filter}
 use Rattle.rules.specs.Samples.{Trace, _⧺_, P, sweepLimit}
 use Rattle.rules.specs.Edges.{stands, edgeAt}
-use Rattle.rules.specs.Replies.{f1, ended}
-use Rattle.rules.specs.Machine.{State, after}
+use Rattle.rules.specs.Replies.{f1, ended, covers}
+use Rattle.rules.specs.Machine.{State, bracketAt, after}
 use Rattle.rules.specs.Records.{records}
 use Rattle.rules.specs.Calls.{fresh}
 use Rattle.rules.specs.declared.Counts.{Counts}
-use Rattle.machine.specs.Places.{machineOf}
+use Rattle.machine.specs.Places.{any3, machineOf}
 use Rattle.columns.specs.Columns.{Rows, Sized, machineAt}
 use Rattle.columns.specs.Masks.{AllMasked}
 use Rattle.lanes.specs.Post.{HandPost}
 use Rattle.rules.specs.Buffers.{over-at}
+use Rattle.plane.specs.Words.{bit, WithoutLowest}
 use Rattle.packing.specs.declared.Planes.{Planes}
 use Rattle.front.specs.declared.words.Front.{Front}
 use Rattle.front.specs.declared.span.Span.{Span}
 use Rattle.blocks.specs.declared.Run.{Run}
 use Rattle.blocks.specs.declared.Stand.{Stand}
 use Rattle.front.specs.Words.{padded, frontOf}
-use Rattle.front.specs.Post.{Low, Reads, Spanned, still}
+use Rattle.front.specs.Post.{Low, Reads, Spanned, framedIn, still}
 
 -- no flag
 abbrev pub bare : Planes → Bool
@@ -67,20 +69,39 @@ pub record Keeps (at : ℕ) (b : List ℕ) (x : Retired) (b′ : List ℕ) : Typ
   pub same : length b′ ≡ length b
   pub inside : at ≤ length b → x .at ≤ length b
 
+-- nothing is done at tick j but to retire, where l are the open replies: no edge stands there, or one without a bracket that none of them covers
+pub record Passes (T : Trace) (l : List Reply) (j : ℕ) : Type 0 where
+  pub edge : stands (edgeAt standard T j) ≡ true → (bracketAt standard (edgeAt standard T) j ≡ Without) × All (λ r. covers j r ≡ false) l
+
 -- after a visit the columns with their counts are the machine of the state, and the records of l are handed out
 pub record Went (l : List Reply) (z : State) (t at : ℕ) (b : List ℕ) (x′ : Rows) (c′ : Counts) (r : ℕ) (b′ : List ℕ) : Type 0 where
   pub gives : Gives l z at b (record { machine = machineAt x′ c′; at = r }) b′
   pub sized : Sized x′
   pub masked : AllMasked t x′
 
--- a visit at tick i of the span, where an edge stands; no edge stands from tick k, up to which the machine has worked, to there
+-- a visit at tick i of the span, where an edge stands; nothing is to be done from tick k, up to which the machine has worked, to there
 pub record VisitPost (x : Rows) (c : Counts) (s : Span) (i t : ℕ) (recent : List ℕ) (base : ℕ) (values : List ℕ) (at : ℕ) (b : List ℕ) (x′ : Rows) (c′ : Counts) (r : ℕ)
     (b′ : List ℕ) : Type 0 where
   pub keeps : Keeps at b (record { machine = machineAt x′ c′; at = r }) b′
   pub result : Sized x → AllMasked t x → (T : Trace) → Shows T t s recent base values → (u : ℕ) → t + i ≡ u + 242 → stands (edgeAt standard T u) ≡ true
-      → (k : ℕ) → k ≤ u → ((j : ℕ) → k ≤ j → j < u → stands (edgeAt standard T j) ≡ false) → machineAt x c ≡ machineOf (stateAt T k)
+      → (k : ℕ) → k ≤ u → ((j : ℕ) → k ≤ j → j < u → Passes T (stateAt T k .live) j) → machineAt x c ≡ machineOf (stateAt T k)
       → at + 18 * length (filter (ended u) (stateAt T k .live)) ≤ length b
       → Went (filter (ended u) (stateAt T k .live)) (stateAt T (suc u)) t at b x′ c′ r b′
+
+-- ---- the ticks to visit
+
+-- tick i of the span has a bracket, or a column covers it
+abbrev pub wantedIn : Span → List ℕ → ℕ → Bool
+wantedIn s on i = framedIn s i || (bit (getD on 0 0) i || any3 (bit (getD on 1 0) i) (bit (getD on 2 0) i) (bit (getD on 3 0) i))
+
+-- those of the ticks x
+pub record Wanted (s : Span) (on : List ℕ) (x y : ℕ) : Type 0 where
+  pub at : (i : ℕ) → bit y i ≡ (bit x i && wantedIn s on i)
+
+-- those that are left of the ticks x once tick i, the first of y, is visited: a bracket may have moved the columns, another edge has not
+pub record Rest (s : Span) (on : List ℕ) (x y i z : ℕ) : Type 0 where
+  pub framed : framedIn s i ≡ true → (j : ℕ) → j < 64 → bit z j ≡ (ltb i j && (bit x j && wantedIn s on j))
+  pub plain : framedIn s i ≡ false → WithoutLowest y z
 
 -- what is due once t ticks are taken is handed out
 pub record LatePost (x : Rows) (t at : ℕ) (b : List ℕ) (x′ : Rows) (r : ℕ) (b′ : List ℕ) : Type 0 where

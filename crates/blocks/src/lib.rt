@@ -5,9 +5,10 @@ ghost use mathlib.Core.Bool.{true};
 ghost use Rattle.machine.specs.Places.{pulseOf};
 ghost use Rattle.framing.specs.Post.{BracketPost};
 ghost use Rattle.front.specs.Post.{bracketIn};
-ghost use Rattle.blocks.specs.Steps.{VisitPost, LatePost, WorkPost, bare, Waits, Stays, BlockPost};
+ghost use Rattle.blocks.specs.Steps.{VisitPost, Wanted, Rest, LatePost, WorkPost, bare, Waits, Stays, BlockPost};
 use framing::frame;
 use front::span::Span;
+use front::span::above;
 use front::span::apart;
 use front::span::framed;
 use front::span::second_main;
@@ -18,7 +19,6 @@ use front::values::value_at;
 use front::words::Front;
 use front::words::advance;
 use front::words::is_still;
-use hearing::any_on;
 use hearing::deal;
 use lanes::hand_out;
 use lanes::mask;
@@ -118,9 +118,6 @@ fn visit(
 {
     let u = tick_of(t, i);
     let end = retire(f1, marks, row, level, on, u, out, at);
-    if !(framed(s, i) | any_on(on, i)) {
-        return Visited { counts: c, at: end };
-    }
     let value = value_at(recent, base, values, u + 1);
     let main = marked(s.main, i);
     let counts = bracket(
@@ -163,6 +160,26 @@ fn hand_late(
     hand_out(f1, marks, row, level, on, t - 179, out, at)
 }
 
+// Of the ticks x of the span, those to visit: where a bracket stands, or a column covers them.
+fn wanted(s: Span, on: &[u64; 8], x: u64) -> u64
+    ensures { λ y. ⌜ Wanted s (now (on .entry)) x y ⌝ }
+{
+    let brackets = s.at168 | (s.at167 | s.at169);
+    let covered = on[0] | (on[1] | (on[2] | on[3]));
+    x & (brackets | covered)
+}
+
+// What is left to visit of the ticks x once tick i, the lowest of y, is visited. Only a bracket opens or removes replies.
+fn rest(s: Span, on: &[u64; 8], x: u64, y: u64, i: u32) -> u64
+    requires { ⌜ (0 < y) × (i < 64) ⌝ }
+    ensures { λ z. ⌜ Rest s (now (on .entry)) x y i z ⌝ }
+{
+    if !framed(s, i) {
+        return without_lowest(y);
+    }
+    wanted(s, on, above(x, i))
+}
+
 // The columns at the last r ticks of the span, once t ticks are taken.
 fn work(
     f1: &mut [u32; 4],
@@ -183,12 +200,14 @@ fn work(
     requires { ⌜ (0 < r) × (r ≤ 64) × (t < 65000) ⌝ }
     ensures { λ x. ⌜ WorkPost (record { f1 = now (f1 .entry); marks = now (marks .entry); row = now (row .entry); level = now (level .entry); on = now (on .entry) }) c s r t (now (recent .entry)) base (now (values .entry)) at (now (out .entry)) (record { f1 = now (f1 .exit); marks = now (marks .exit); row = now (row .exit); level = now (level .exit); on = now (on .exit) }) (x .counts) (x .at) (now (out .exit)) ⌝ }
 {
-    let mut todo = top(s.due, r);
-    if todo == 0 {
+    let due = top(s.due, r);
+    if due == 0 {
         let end = hand_late(f1, marks, row, level, on, t, out, at);
         return Visited { counts: c, at: end };
     }
     mask(f1, marks, on, t);
+    let mut todo = wanted(s, on, due);
+    let mut from = 64 - r;
     let mut counts = c;
     let mut place = at;
     while todo != 0 {
@@ -212,7 +231,8 @@ fn work(
         let next = v.counts;
         counts = next;
         place = v.at;
-        todo = without_lowest(todo);
+        todo = rest(s, on, due, todo, i);
+        from = i + 1;
     }
     let end = hand_late(f1, marks, row, level, on, t, out, place);
     Visited { counts, at: end }

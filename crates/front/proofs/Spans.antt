@@ -24,7 +24,7 @@ use Rattle.edges.specs.Brackets.{Due, At168, At167}
 use Rattle.front.specs.declared.words.Front.{Front}
 use Rattle.front.specs.declared.span.Span.{Span}
 use Rattle.front.specs.Words.{padded, recentOf}
-use Rattle.front.specs.Post.{valueOf, KeepPost, Spanned, SpanPost, pulseIn, bracketIn, Reads}
+use Rattle.front.specs.Post.{valueOf, KeepPost, Spanned, SpanPost, pulseIn, framedIn, bracketIn, Reads}
 use Rattle.front.proofs.Growing.{stands-padded, padded-M}
 use Rattle.front.proofs.Advancing.{Fronted, fronted, on}
 
@@ -201,7 +201,7 @@ module _ (a b i : ℕ) (la : a < 2 ^ 64) (lb : b < 2 ^ 64) (li : i < 64) where
       go false false f g h = refl
 
 module _ (s : Span) (i u : ℕ) (recent : List ℕ) (base : ℕ) (values : List ℕ) where
-  pub bracket-none : (r : Bool) → r ≡ (bit (s .at168) i || (bit (s .at167) i || bit (s .at169) i)) → r ≡ false → Without ≡ bracketIn s i u recent base values
+  pub bracket-none : (r : Bool) → r ≡ framedIn s i → r ≡ false → Without ≡ bracketIn s i u recent base values
   unfolding bracketIn
   bracket-none r e off =
       let h = sym e ∙ off in
@@ -226,7 +226,7 @@ module _ (s : Span) (i u : ℕ) (recent : List ℕ) (base : ℕ) (values : List 
       rw (sym ea, sym eb, sym ec) (λ j. With (record { tick = record { 0 = u + ed j }; main = em j; value = q j }))
   bracket-by false false false main d v ea eb ec there em ed ev = absurd (impossible (sym there))
 
-  pub bracket-there : (r main : Bool) (d v : ℕ) → r ≡ (bit (s .at168) i || (bit (s .at167) i || bit (s .at169) i)) → r ≡ true
+  pub bracket-there : (r main : Bool) (d v : ℕ) → r ≡ framedIn s i → r ≡ true
       → main ≡ cond (bit (s .at168) i) (bit (s .main168) i) (cond (bit (s .at167) i) (bit (s .main167) i) (bit (s .main169) i)) → d ≡ cond (bit (s .at168) i) 168 (cond (bit (s .at167) i) 167 169)
       → v ≡ valueOf recent base values (u + d + 1) → With (record { tick = record { 0 = u + d }; main = main; value = v }) ≡ bracketIn s i u recent base values
   bracket-there r main d v e on em ed ev =

@@ -1,6 +1,6 @@
 -- What the functions of the front answer, for the flags and values that their words belong to.
 use Prim.Native.Nat.{ℕ, _+_, _-_, _^_, _≤_, _<_}
-use mathlib.Core.Bool.{Bool, false, cond, _&&_}
+use mathlib.Core.Bool.{Bool, false, _||_, cond, _&&_}
 use mathlib.Core.List.{List, _++_}
 use mathlib.Core.Path.{_≡_}
 use lib.Bits.{bitAnd, bitOr}
@@ -80,6 +80,10 @@ soonerIn s = bitAnd (s .at167) (2 ^ 64 - 1 - s .at168)
 abbrev pub laterIn : Span → ℕ
 laterIn s = 2 ^ 64 - 1 - bitOr (s .at168) (s .at167)
 
+-- a bracket stands at tick i of the span, if an edge does
+abbrev pub framedIn : Span → ℕ → Bool
+framedIn s i = bit (s .at168) i || (bit (s .at167) i || bit (s .at169) i)
+
 -- the bracket at tick u, which is tick i of the span: its F2, if it has one
 unfoldable pub bracketIn : Span → ℕ → ℕ → List ℕ → ℕ → List ℕ → Bracket
 unfolding bit valueOf
@@ -98,3 +102,9 @@ pub record TopPost (x r y : ℕ) : Type 0 where
   pub below : y < 2 ^ 64
   pub clear : (i : ℕ) → i + r < 64 → bit y i ≡ false
   pub same : (i : ℕ) → 64 ≤ i + r → i < 64 → bit y i ≡ bit x i
+
+-- the bits of x above bit i
+pub record AbovePost (x i y : ℕ) : Type 0 where
+  pub below : y < 2 ^ 64
+  pub clear : (j : ℕ) → j ≤ i → bit y j ≡ false
+  pub same : (j : ℕ) → i < j → j < 64 → bit y j ≡ bit x j

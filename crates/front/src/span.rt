@@ -1,9 +1,9 @@
 // The machine's view of 64 ticks u: words of the edges at u and at the three places of an F2, and of the M of each.
 ghost use Prim.Native.Nat.{ℕ, _+_, _<_, _≤_};
 ghost use mathlib.Core.Path.{_≡_};
-ghost use mathlib.Core.Bool.{_||_, cond};
+ghost use mathlib.Core.Bool.{cond};
 ghost use Rattle.plane.specs.Words.{bit};
-ghost use Rattle.front.specs.Post.{SpanPost, TopPost, soonerIn, laterIn};
+ghost use Rattle.front.specs.Post.{SpanPost, TopPost, AbovePost, framedIn, soonerIn, laterIn};
 use super::words::Front;
 use edges::brackets::at167;
 use edges::brackets::at168;
@@ -53,10 +53,18 @@ pub fn top(x: u64, r: u32) -> u64
     (x >> (64 - r)) << (64 - r)
 }
 
+// The bits above bit i.
+pub fn above(x: u64, i: u32) -> u64
+    requires { ⌜ i < 64 ⌝ }
+    ensures { λ y. ⌜ AbovePost x i y ⌝ }
+{
+    (((x >> i) >> 1) << 1) << i
+}
+
 // A bracket stands at the i-th tick of the span, if an edge does.
 pub fn framed(s: Span, i: u32) -> bool
     requires { ⌜ i < 64 ⌝ }
-    ensures { λ r. ⌜ r ≡ (bit (s .at168) i || (bit (s .at167) i || bit (s .at169) i)) ⌝ }
+    ensures { λ r. ⌜ r ≡ framedIn s i ⌝ }
 {
     marked(s.at168 | s.at167 | s.at169, i)
 }

@@ -18,9 +18,9 @@ use Rattle.rules.specs.declared.Place.{Place}
 use Rattle.rules.specs.declared.Slot.{Slot}
 use Rattle.rules.specs.declared.Slot.the-variants.{Idle, Open}
 use Rattle.rules.specs.Settings.{standard}
-use Rattle.rules.specs.Samples.{bit as digit}
 use Rattle.rules.specs.Replies.{Verdict, f1, position, isPosition, covers, near, level, agrees, verdict, takes, settle, average, heardAt, bitOf}
 use Rattle.rules.proofs.Truth.{impossible, or-left, or-right, and-left}
+use Rattle.rules.proofs.Skipping.{takes-none}
 use Rattle.replies.specs.Sums.{wrapped}
 use Rattle.machine.specs.Places.{test, testSlot, any3, positionIn, reaches, hearAt, dealt}
 use Rattle.machine.proofs.PlaceLaws.{covers-in, deal-by, deal-quiet}
@@ -205,15 +205,6 @@ moved c f w v j e own other w₁ v₁ w₂ v₂ w′ v′ o pw pr qw qr =
     }
 
 -- ---- the place of a column afterwards
-
-takes-none : (k w : ℕ) → isPosition k ≡ false → takes k w ≡ false
-takes-none k w h = go (leb 1 k) (leb k 14) (eqb k 17) (not (digit (bitOf k) w)) h
-  where
-    go : (a b c d : Bool) → (b || c) ≡ false → ((a && b || c) && d) ≡ false
-    go a true c d h = absurd (impossible h)
-    go a false true d h = absurd (impossible h)
-    go true false false d h = refl
-    go false false false d h = refl
 
 -- the reply of a column
 abbrev replyOf : ℕ → Marks → Word → Reference → Reply

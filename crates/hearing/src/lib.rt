@@ -1,13 +1,12 @@
 // An edge goes to the columns that cover it, and settles a position of each.
 ghost use Prim.Native.Nat.{_<_};
 ghost use mathlib.Core.Path.{_≡_};
-ghost use mathlib.Core.Bool.{true, _||_, _&&_};
+ghost use mathlib.Core.Bool.{true, _&&_};
 ghost use lib.ListN.{getD};
 ghost use lib.Ieee.{nan};
 ghost use Rattle.rules.specs.Replies.{position as position′, near as near′};
-ghost use Rattle.plane.specs.Words.{bit};
 ghost use Rattle.rules.specs.Settings.{standard};
-ghost use Rattle.machine.specs.Places.{pulseOf, any3 as any3′};
+ghost use Rattle.machine.specs.Places.{pulseOf};
 ghost use Rattle.masks.specs.Masks.{coversFrom};
 ghost use Rattle.hearing.specs.Post.{placeOf, freshIn, HearPost, HearIfPost, DealPost, twiceIn, whichOf};
 use columns::rows::put_word;
@@ -100,18 +99,6 @@ fn speaks(level: &[f64; 4], j: usize, c: bool, v: u8) -> bool
     ensures { λ r. ⌜ r ≡ (c && near′ (standard .window) (getD (now (level .entry)) j nan) v) ⌝ }
 {
     c & near(level[j], v)
-}
-
-// A column covers tick i of the block.
-pub fn any_on(on: &[u64; 8], i: u32) -> bool
-    requires { ⌜ i < 64 ⌝ }
-    ensures { λ r. ⌜ r ≡ bit (getD (now (on .entry)) 0 0) i || any3′ (bit (getD (now (on .entry)) 1 0) i) (bit (getD (now (on .entry)) 2 0) i) (bit (getD (now (on .entry)) 3 0) i) ⌝ }
-{
-    let a = marked(on[0], i);
-    let b = marked(on[1], i);
-    let c = marked(on[2], i);
-    let d = marked(on[3], i);
-    any4(a, b, c, d)
 }
 
 // The ticks that two columns or more cover.

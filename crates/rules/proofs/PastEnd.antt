@@ -18,6 +18,7 @@ use Rattle.rules.specs.Replies.{f1}
 use Rattle.rules.specs.Machine.{State, retired, after, final}
 use Rattle.rules.specs.Records.{replies}
 use Rattle.rules.specs.Calls.{due, fresh, rest, silence}
+use Rattle.rules.proofs.Truth.{impossible}
 use Rattle.rules.proofs.ListLaws.{filter-all, all-map}
 use Rattle.rules.proofs.Locality.{kinds-at}
 use Rattle.rules.proofs.Order.{Rising, rising-all, Ordered, retired-replies, ordered}
@@ -135,7 +136,7 @@ module _ (set : Settings) (ok : Allowed set) (T : Trace) where
       let n = length (T .flags) in
       let s = after _+_ set (edgeAt set T) n in
       let z : n + suc k ≡ suc (n + k) = omega arith in
-      let e = skip set (edgeAt set T) (edge-timed set T) k n (λ t l m. silent t l) in
+      let e = skip set (edgeAt set T) (edge-timed set T) k n (λ t l m q. absurd (impossible (sym q ∙ silent t l))) in
       subst (λ (m : ℕ). Same (after _+_ set (edgeAt set T) m) s) (sym z)
       (subst (λ (x : State). Same x s) (sym e) (same-retired (n + k) n s (ordered set (edgeAt set T) (edge-timed set T) n .rising)))
 

@@ -1,21 +1,28 @@
--- Ticks without an edge only retire: a run of them is one retiring at the last. So the machine need be visited only where an edge stands.
+-- A tick without an edge only retires, and so does one whose edge has no bracket and is covered by no open reply: a run of them is one retiring at the last. So
+-- the machine need be visited only at the other edges.
 use Prim.Native.Nat.{ℕ, zero, suc, _+_, _-_, _≤_, _<_}
 use native.Mathlib.Omega.{arith}
 use mathlib.Core.Path.{_≡_, refl, sym, ap, _∙_, subst}
-use mathlib.Core.Bool.{Bool, true, false, cond}
+use mathlib.Core.Bool.{Bool, true, false, not, _&&_, _||_, cond}
 use mathlib.Core.List.{List, [], _∷_, _++_, append-nil, append-assoc}
-use lib.Dec.{leb, ltb}
+use lib.Dec.{leb, ltb, eqb}
 use lib.ListN.{length, length-append}
 use borrow.Author.Tests.{leb-true, leb-false, ltb-true, ltb-false, lt-ltb, le-ltb}
+use Rattle.rules.specs.declared.Tick.{Tick}
 use Rattle.rules.specs.declared.Reply.{Reply}
+use Rattle.rules.specs.declared.Pulse.{Pulse}
+use Rattle.rules.specs.declared.Bracket.{Bracket}
+use Rattle.rules.specs.declared.Bracket.the-variants.{Without}
 use Rattle.rules.specs.Settings.{Settings}
-use Rattle.rules.specs.Lists.{filter, reject, All}
+use Rattle.rules.specs.Lists.{any, filter, reject, All}
+use Rattle.rules.specs.Samples.{bit}
 use Rattle.rules.specs.Edges.{Edge, stands}
-use Rattle.rules.specs.Replies.{f1, ended}
-use Rattle.rules.specs.Machine.{State, retired, bracketAt, edgeStep, step, after}
+use Rattle.rules.specs.Replies.{f1, ended, position, isPosition, covers, agrees, verdict, bitOf, takes, heardAt, speaks, hear}
+use Rattle.rules.specs.Machine.{State, retired, bracketAt, bracket, dealFrom, deal, edgeStep, step, after}
 use Rattle.rules.specs.Records.{replies}
-use Rattle.rules.proofs.ListLaws.{filter-none, reject-none, all-map}
-use Rattle.rules.proofs.Order.{Rising, rising-behind, none-later, ended-earlier, Timed, Ordered, ordered}
+use Rattle.rules.proofs.Truth.{impossible}
+use Rattle.rules.proofs.ListLaws.{filter-none, reject-none, all-map, all-reject}
+use Rattle.rules.proofs.Order.{hear-f1, Rising, rising-behind, none-later, ended-earlier, Timed, Ordered, ordered}
 use Rattle.rules.proofs.Settled.{Young, aged, step-done, edge-done}
 
 -- ---- retiring twice
@@ -54,25 +61,83 @@ module _ (u v : ℕ) (h : u ≤ v) where
       let l = reject-after (s .live) in
       λ i. record { done = d i; live = l i; counts = s .counts }
 
--- ---- ticks without an edge
+-- ---- edges that no open reply covers
+
+-- only a position that covers can be settled
+pub takes-none : (k w : ℕ) → isPosition k ≡ false → takes k w ≡ false
+takes-none k w h = go (leb 1 k) (leb k 14) (eqb k 17) (not (bit (bitOf k) w)) h
+  where
+    go : (a b c d : Bool) → (b || c) ≡ false → ((a && b || c) && d) ≡ false
+    go a true c d h = absurd (impossible h)
+    go a false true d h = absurd (impossible h)
+    go true false false d h = refl
+    go false false false d h = refl
+
+module _ (set : Settings) (e : Pulse) where
+  hear-none : (other : Bool) (r : Reply) → covers (e .tick .0) r ≡ false → hear _+_ set e other r ≡ r
+  unfolding hear covers
+  hear-none other r h =
+      let k = position (f1 r) (e .tick .0) in
+      ap (λ (b : Bool). cond b (heardAt _+_ k e (verdict (e .main) (agrees set (e .value) r) other) r) r) (takes-none k (r .word .settled) h)
+
+  deal-none : (before l : List Reply) → All (λ r. covers (e .tick .0) r ≡ false) l → dealFrom _+_ set e before l ≡ l
+  deal-none before [] h = refl
+  deal-none before (r ∷ l) h =
+      let a = hear-none (any (speaks set e) (before ++ l)) r (h .0) in
+      let b = deal-none (before ++ (r ∷ [])) l (h .1) in
+      λ i. a i ∷ b i
+
+  -- what an edge settles moves no reply
+  still-uncovered : (v : ℕ) (before l : List Reply) → All (λ r. covers v r ≡ false) l → All (λ r. covers v r ≡ false) (dealFrom _+_ set e before l)
+  unfolding covers
+  still-uncovered v before [] h = tt
+  still-uncovered v before (r ∷ l) h =
+      let other = any (speaks set e) (before ++ l) in
+      (ap (λ (q : Tick). isPosition (position (q .0) v)) (hear-f1 set e other r) ∙ h .0, still-uncovered v (before ++ (r ∷ [])) l (h .1))
+
+-- ---- ticks at which nothing is done but to retire
 
 module _ (set : Settings) (E : ℕ → Edge) (timed : Timed E) where
-  plain-step : (u : ℕ) (s : State) → stands (E u) ≡ false → step _+_ set E u s ≡ retired u s
-  unfolding step
-  plain-step u s h = rw h
+  -- where l are the open replies: no edge stands at t, or one without a bracket that none of them covers
+  abbrev pub Passed : List Reply → ℕ → Type 0
+  Passed l t = stands (E t) ≡ true → (bracketAt set E t ≡ Without) × All (λ r. covers t r ≡ false) l
 
-  -- from c on, suc k ticks without an edge
-  pub skip : (k c : ℕ) → ((t : ℕ) → c ≤ t → t ≤ c + k → stands (E t) ≡ false) → after _+_ set E (suc (c + k)) ≡ retired (c + k) (after _+_ set E c)
+  plain-step : (u : ℕ) (s : State) → Passed (retired u s .live) u → step _+_ set E u s ≡ retired u s
+  unfolding step edgeStep bracket deal
+  plain-step u s h = go (stands (E u)) refl
+    where
+      go : (b : Bool) → stands (E u) ≡ b → cond b (edgeStep _+_ set (E u .pulse) (bracketAt set E u) (retired u s)) (retired u s) ≡ retired u s
+      go false e = refl
+      go true e =
+          let n = subst (λ (v : ℕ). All (λ r. covers v r ≡ false) (retired u s .live)) (sym (timed .tick u)) (h e .1) in
+          ap (λ (b : Bracket). edgeStep _+_ set (E u .pulse) b (retired u s)) (h e .0)
+          ∙ (λ i. record { done = retired u s .done; live = deal-none set (E u .pulse) [] (retired u s .live) n i; counts = retired u s .counts })
+
+  passed-less : (u v t : ℕ) (s : State) → Passed (s .live) t → Passed (retired v (retired u s) .live) t
+  unfolding retired
+  passed-less u v t s h e =
+      let U : Reply → Type 0 = λ r. covers t r ≡ false in
+      (h e .0, all-reject U (ended v) (reject (ended u) (s .live)) (all-reject U (ended u) (s .live) (h e .1)))
+
+  passed-once : (v t : ℕ) (s : State) → Passed (s .live) t → Passed (retired v s .live) t
+  unfolding retired
+  passed-once v t s h e = (h e .0, all-reject (λ (r : Reply). covers t r ≡ false) (ended v) (s .live) (h e .1))
+
+  -- from c on, suc k such ticks
+  pub skip : (k c : ℕ) → ((t : ℕ) → c ≤ t → t ≤ c + k → Passed (after _+_ set E c .live) t) → after _+_ set E (suc (c + k)) ≡ retired (c + k) (after _+_ set E c)
   unfolding after
   skip zero c h =
       let z : c + 0 ≡ c = omega arith in
-      rw z (plain-step c (after _+_ set E c) (h c (omega arith) (omega arith)))
+      rw z (plain-step c (after _+_ set E c) (passed-once c c (after _+_ set E c) (h c (omega arith) (omega arith))))
   skip (suc k) c h =
       let z : c + suc k ≡ suc (c + k) = omega arith in
+      let a = after _+_ set E c in
+      let e = skip k c (λ t l m. h t l (omega arith)) in
+      let n = passed-less (c + k) (suc (c + k)) (suc (c + k)) a (h (suc (c + k)) (omega arith) (omega arith)) in
       rw z
-      (plain-step (suc (c + k)) (after _+_ set E (suc (c + k))) (h (suc (c + k)) (omega arith) (omega arith))
-      ∙ ap (retired (suc (c + k))) (skip k c (λ t l m. h t l (omega arith)))
-      ∙ retired-twice (c + k) (suc (c + k)) (omega arith) c (after _+_ set E c) (ordered set E timed c .rising))
+      (plain-step (suc (c + k)) (after _+_ set E (suc (c + k))) (subst (λ (s : State). Passed (retired (suc (c + k)) s .live) (suc (c + k))) (sym e) n)
+      ∙ ap (retired (suc (c + k))) e
+      ∙ retired-twice (c + k) (suc (c + k)) (omega arith) c a (ordered set E timed c .rising))
 
   -- after tick u nothing is left for u to retire
   young-none : (u : ℕ) (l : List Reply) → All (Young u) l → All (λ r. ended u r ≡ false) l
@@ -88,8 +153,8 @@ module _ (set : Settings) (E : ℕ → Edge) (timed : Timed E) where
       let l = reject-none (ended u) (s .live) n in
       λ i. record { done = d i; live = l i; counts = s .counts }
 
-  -- with no edge from c to u, the state after u is that after c, retired at u
-  pub skip-to : (c u : ℕ) → c ≤ suc u → ((t : ℕ) → c ≤ t → t ≤ u → stands (E t) ≡ false) → retired u (after _+_ set E c) ≡ after _+_ set E (suc u)
+  -- with nothing to do from c to u, the state after u is that after c, retired at u
+  pub skip-to : (c u : ℕ) → c ≤ suc u → ((t : ℕ) → c ≤ t → t ≤ u → Passed (after _+_ set E c .live) t) → retired u (after _+_ set E c) ≡ after _+_ set E (suc u)
   skip-to c u h p = go (leb c u) refl
     where
       go : (b : Bool) → leb c u ≡ b → retired u (after _+_ set E c) ≡ after _+_ set E (suc u)
@@ -102,8 +167,8 @@ module _ (set : Settings) (E : ℕ → Edge) (timed : Timed E) where
           let z : c ≡ suc u = omega (arith, leb-false c u e) in
           ap (λ (n : ℕ). retired u (after _+_ set E n)) z ∙ retired-again u
 
-  -- with no edge from c up to u, the step at u starts from the state after c, retired at u
-  pub visit : (c u : ℕ) → c ≤ u → ((t : ℕ) → c ≤ t → t < u → stands (E t) ≡ false) → stands (E u) ≡ true
+  -- with nothing to do from c up to u, the step at u starts from the state after c, retired at u
+  pub visit : (c u : ℕ) → c ≤ u → ((t : ℕ) → c ≤ t → t < u → Passed (after _+_ set E c .live) t) → stands (E u) ≡ true
       → edgeStep _+_ set (E u .pulse) (bracketAt set E u) (retired u (after _+_ set E c)) ≡ after _+_ set E (suc u)
   unfolding after step
   visit c zero h p q =
@@ -131,13 +196,23 @@ module _ (set : Settings) (E : ℕ → Edge) (timed : Timed E) where
       rw z (omega (arith, step-grows (k + c) (after _+_ set E (k + c)), done-grows c k))
 
   -- what a visit at u hands out: the replies that are over there
-  pub visit-done : (c u : ℕ) → c ≤ u → ((t : ℕ) → c ≤ t → t < u → stands (E t) ≡ false) → stands (E u) ≡ true
+  pub visit-done : (c u : ℕ) → c ≤ u → ((t : ℕ) → c ≤ t → t < u → Passed (after _+_ set E c .live) t) → stands (E u) ≡ true
       → after _+_ set E (suc u) .done ≡ after _+_ set E c .done ++ filter (ended u) (after _+_ set E c .live)
   unfolding retired
   visit-done c u h p q =
       ap (λ (s : State). s .done) (sym (visit c u h p q)) ∙ edge-done set (E u .pulse) (bracketAt set E u) (retired u (after _+_ set E c))
 
-  pub skip-done : (c u : ℕ) → c ≤ suc u → ((t : ℕ) → c ≤ t → t ≤ u → stands (E t) ≡ false)
+  pub skip-done : (c u : ℕ) → c ≤ suc u → ((t : ℕ) → c ≤ t → t ≤ u → Passed (after _+_ set E c .live) t)
       → after _+_ set E (suc u) .done ≡ after _+_ set E c .done ++ filter (ended u) (after _+_ set E c .live)
   unfolding retired
   skip-done c u h p = ap (λ (s : State). s .done) (sym (skip-to c u h p))
+
+  -- an edge without a bracket covers no more than before
+  pub visit-uncovered : (c u : ℕ) → c ≤ u → ((t : ℕ) → c ≤ t → t < u → Passed (after _+_ set E c .live) t) → stands (E u) ≡ true → bracketAt set E u ≡ Without
+      → (v : ℕ) → All (λ r. covers v r ≡ false) (after _+_ set E c .live) → All (λ r. covers v r ≡ false) (after _+_ set E (suc u) .live)
+  unfolding edgeStep bracket deal retired
+  visit-uncovered c u h p q b v n =
+      let U : Reply → Type 0 = λ r. covers v r ≡ false in
+      let s = after _+_ set E c in
+      let e = ap (λ (x : Bracket). edgeStep _+_ set (E u .pulse) x (retired u s)) (sym b) ∙ visit c u h p q in
+      subst (λ (x : State). All U (x .live)) e (still-uncovered set (E u .pulse) v [] (reject (ended u) (s .live)) (all-reject U (ended u) (s .live) n))
