@@ -180,7 +180,7 @@ fn rest(s: Span, on: &[u64; 8], x: u64, y: u64, i: u32) -> u64
     wanted(s, on, above(x, i))
 }
 
-// The columns at the last r ticks of the span, once t ticks are taken.
+// The columns at the last r ticks of the span, once t ticks are taken. All edges before tick `from` of the span are worked; it shows that the loop ends.
 fn work(
     f1: &mut [u32; 4],
     marks: &mut [u16; 4],
