@@ -1,7 +1,7 @@
 -- The machine's loop over the bits to visit of a span, lowest first. Up to bit k all edges are taken; from there on an edge whose bit is not set is one
 -- at which nothing is to be done.
 -- What was handed out so far is a beginning of what the whole span hands out, so there is room for it.
-use Prim.Native.Nat.{ℕ, zero, suc, _+_, _-_, _*_, _^_, _≤_, _<_}
+use Prim.Native.Nat.{ℕ, zero, suc, _+_, _-_, _*_, _≤_, _<_}
 use native.Mathlib.Omega.{arith}
 use mathlib.Core.Path.{_≡_, refl, sym, ap, _∙_, subst}
 use mathlib.Core.Logic.{_⊎_, inl, inr}

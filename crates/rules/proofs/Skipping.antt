@@ -5,9 +5,9 @@ use native.Mathlib.Omega.{arith}
 use mathlib.Core.Path.{_≡_, refl, sym, ap, _∙_, subst}
 use mathlib.Core.Bool.{Bool, true, false, not, _&&_, _||_, cond}
 use mathlib.Core.List.{List, [], _∷_, _++_, append-nil, append-assoc}
-use lib.Dec.{leb, ltb, eqb}
+use lib.Dec.{leb, eqb}
 use lib.ListN.{length, length-append}
-use borrow.Author.Tests.{leb-true, leb-false, ltb-true, ltb-false, lt-ltb, le-ltb}
+use borrow.Author.Tests.{leb-true, leb-false, ltb-true, lt-ltb, le-ltb}
 use Rattle.rules.specs.declared.Tick.{Tick}
 use Rattle.rules.specs.declared.Reply.{Reply}
 use Rattle.rules.specs.declared.Pulse.{Pulse}
@@ -22,7 +22,7 @@ use Rattle.rules.specs.Machine.{State, retired, bracketAt, bracket, deal
 use Rattle.rules.specs.Records.{replies}
 use Rattle.rules.proofs.Truth.{impossible}
 use Rattle.rules.proofs.ListLaws.{filter-none, reject-none, all-map, all-reject}
-use Rattle.rules.proofs.Order.{hear-f1, Rising, rising-behind, none-later, ended-earlier, Timed, Ordered, ordered}
+use Rattle.rules.proofs.Order.{hear-f1, Rising, rising-behind, none-later, ended-earlier, Timed, ordered}
 use Rattle.rules.proofs.Settled.{Young, aged, step-done, edge-done}
 
 -- ---- retiring twice
