@@ -123,23 +123,26 @@ static void time_scenes(double seconds)
     }
 }
 
-/* Ten sweeps of the same n ticks, one sweep of these ten times n ticks, and an empty one: what opening and closing take.
-   The ten stand one behind the other, so that both read the same memory. */
+/* Sweeps of 0, n, 2n and 10n ticks: as many of each as fill the same memory, which holds the same n ticks ten times over. */
 static void time_growth(int scene, double seconds)
 {
+    enum { LENGTHS = 4 };
+    static const size_t counts[LENGTHS] = { 1, 10, 5, 1 }, times[LENGTHS] = { 0, 1, 2, 10 };
     const size_t n = GROWTH_TICKS;
     paint_trace(&scenes[scene], 1, measured.flags, measured.values, n);
     for (size_t i = 1; i < 10; i++) {
         memcpy(measured.flags + i * n, measured.flags, n);
         memcpy(measured.values + i * n, measured.values, n);
     }
-    const work w[3] = { { &measured, 1, 0, ARP_PIECE, 400 }, { &measured, 10, n, ARP_PIECE, 10 }, { &measured, 1, 10 * n, ARP_PIECE, 10 } };
-    pair p[3];
-    time_all(3, w, p, 3 * seconds);
-    p[1].yardstick /= 10;
-    p[1].proved /= 10;
-    printf("growth\t%s\t%zu\t%.1f\t%.1f\t%.1f\t%.1f\t%.1f\t%.1f\n", scenes[scene].name, n, 1e9 * p[0].yardstick,
-           1e9 * p[1].yardstick, 1e9 * p[2].yardstick, 1e9 * p[0].proved, 1e9 * p[1].proved, 1e9 * p[2].proved);
+    work w[LENGTHS];
+    pair p[LENGTHS];
+    for (size_t i = 0; i < LENGTHS; i++)
+        w[i] = (work){ &measured, counts[i], times[i] * n, ARP_PIECE, times[i] ? 10 : 400 };
+    time_all(LENGTHS, w, p, LENGTHS * seconds);
+    printf("growth\t%s\t%zu", scenes[scene].name, n);
+    for (size_t i = 0; i < LENGTHS; i++) printf("\t%.1f", 1e9 * p[i].yardstick / (double)counts[i]);
+    for (size_t i = 0; i < LENGTHS; i++) printf("\t%.1f", 1e9 * p[i].proved / (double)counts[i]);
+    printf("\n");
 }
 
 /* --------------------------------------------------------------------- stack */
