@@ -98,7 +98,7 @@ wantedIn s on i = framedIn s i || (bit (getD on 0 0) i || any3 (bit (getD on 1 0
 pub record Wanted (s : Span) (on : List ℕ) (x y : ℕ) : Type 0 where
   pub at : (i : ℕ) → bit y i ≡ (bit x i && wantedIn s on i)
 
--- those that are left of the ticks x once tick i, the first of y, is visited: a bracket may have moved the columns, another edge has not
+-- those that are left of the ticks x once tick i, the first of y, is visited: behind a bracket by the columns as they are now, behind another edge those of y
 pub record Rest (s : Span) (on : List ℕ) (x y i z : ℕ) : Type 0 where
   pub framed : framedIn s i ≡ true → (j : ℕ) → j < 64 → bit z j ≡ (ltb i j && (bit x j && wantedIn s on j))
   pub plain : framedIn s i ≡ false → WithoutLowest y z

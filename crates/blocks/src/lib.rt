@@ -169,7 +169,7 @@ fn wanted(s: Span, on: &[u64; 8], x: u64) -> u64
     x & (brackets | covered)
 }
 
-// What is left to visit of the ticks x once tick i, the lowest of y, is visited. Only a bracket opens or removes replies.
+// What is left to visit of the ticks x once tick i, the lowest of y, is visited. Only a bracket opens a reply or removes a phantom; one that ended covers no later tick.
 fn rest(s: Span, on: &[u64; 8], x: u64, y: u64, i: u32) -> u64
     requires { ⌜ (0 < y) × (i < 64) ⌝ }
     ensures { λ z. ⌜ Rest s (now (on .entry)) x y i z ⌝ }

@@ -72,6 +72,7 @@ fn hear(
     take_in(row, level, j, pick(sure, f, 0), value);
 }
 
+// The same, if c.
 fn hear_if(
     c: bool,
     f1: &[u32; 4],
