@@ -1,7 +1,8 @@
-//! A separate model of the ATCRBS reply processor, written from document 01 alone.
-//! Each rule works on the whole trace and carries the sentence of 01 that it transcribes.
+//! A separate model of the ATCRBS reply processor, written from documents 01 and 02 alone.
+//! Each rule of 01 works on the whole trace. Each rule carries the sentence that it transcribes.
 
 pub mod brackets;
+pub mod codes;
 pub mod compare;
 pub mod edges;
 pub mod frames;
