@@ -4,6 +4,7 @@ use native.Mathlib.Omega.{arith}
 use native.Mathlib.Nat.{mul-assoc, pow-suc, pow-succ', div-one, div-div-eq-div-mul}
 use mathlib.Core.Path.{_≡_, refl, sym, ap, _∙_}
 use mathlib.Core.List.{List, [], _∷_}
+use lib.Bits.{differ, bitXor, xor-step, xor-shr}
 use lib.ListN.{length}
 use Rattle.rules.specs.Lists.{All}
 use Rattle.codes.specs.Gray.{withDigit, grayFrom, gray, grayOf}
@@ -44,3 +45,23 @@ first g gs n h = rw (before gs (withDigit n g), before (g ∷ gs) n) (own-digit 
 pub written-read : (gs : List ℕ) (n : ℕ) → All (λ g. g < 2) gs → grayOf (length gs) (grayFrom n gs) ≡ gs
 written-read [] n all = refl
 written-read (g ∷ gs) n all = λ i. first g gs n (all .0) i ∷ written-read gs (withDigit n g) (all .1) i
+
+-- ---- as a number: n xor n / 2
+
+differ-digits : (x y : ℕ) → x < 2 → y < 2 → differ x y ≡ (x + y) % 2
+differ-digits zero y h l = omega arith
+differ-digits (suc zero) zero h l = refl
+differ-digits (suc zero) (suc zero) h l = refl
+differ-digits (suc zero) (suc (suc y)) h l = absurd (omega arith)
+differ-digits (suc (suc x)) y h l = absurd (omega arith)
+
+xor-odd : (a b : ℕ) → bitXor a b % 2 ≡ (a + b) % 2
+xor-odd a b = let d = differ-digits (a % 2) (b % 2) (omega arith) (omega arith) in omega (arith, xor-step a b, d)
+
+quarter : (n k : ℕ) → n / 2 / 2 ^ k ≡ n / 2 ^ suc k
+quarter n k = div-div-eq-div-mul n 2 (2 ^ k) ∙ ap (λ (d : ℕ). n / d) (sym (pow-succ' 2 k))
+
+-- digit k of the Gray code of n
+pub gray-digit : (n k : ℕ) → bitXor n (n / 2) / 2 ^ k % 2 ≡ (n / 2 ^ k + n / 2 ^ suc k) % 2
+gray-digit n k =
+    ap (λ (m : ℕ). m % 2) (xor-shr n (n / 2) k) ∙ xor-odd (n / 2 ^ k) (n / 2 / 2 ^ k) ∙ ap (λ (m : ℕ). (n / 2 ^ k + m) % 2) (quarter n k)

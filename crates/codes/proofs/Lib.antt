@@ -1,8 +1,4 @@
--- Laws of the numbers that codes are made of, and what is proved of reading and writing.
-pub mod Feet
-pub mod GrayLaws
-pub mod AltitudeLaws
-pub mod WritingLaws
+-- Laws of pulses, of Gray code and of the identity.
 pub mod PulseLaws
+pub mod GrayLaws
 pub mod IdentityLaws
-pub mod MeaningLaws

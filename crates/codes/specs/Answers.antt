@@ -1,12 +1,12 @@
 -- What the code answers for each case.
 use Rattle.codes.specs.declared.Meaning.{Meaning as Said}
 use Rattle.codes.specs.declared.Meaning.the-variants.{Altitude, Identity, NoMode}
-use Rattle.codes.specs.declared.mode_c.PressureAltitude.{PressureAltitude}
-use Rattle.codes.specs.declared.mode_c.PressureAltitude.the-variants.{Feet, Unsure, NoAltitude}
-use Rattle.codes.specs.declared.mode_a.Squawk.{Squawk}
-use Rattle.codes.specs.declared.mode_a.Squawk.the-variants.{Digits, Unsure as NotSure}
-use Rattle.codes.specs.declared.writing.Written.{Written}
-use Rattle.codes.specs.declared.writing.Written.the-variants.{Code, NoCode}
+use Rattle.codes.specs.declared.PressureAltitude.{PressureAltitude}
+use Rattle.codes.specs.declared.PressureAltitude.the-variants.{Feet, Unsure, NoAltitude}
+use Rattle.codes.specs.declared.Squawk.{Squawk}
+use Rattle.codes.specs.declared.Squawk.the-variants.{Digits, Unsure as NotSure}
+use Rattle.codes.specs.declared.Written.{Written}
+use Rattle.codes.specs.declared.Written.the-variants.{Code, NoCode}
 use Rattle.codes.specs.Altitude as C
 use Rattle.codes.specs.Identity as A
 use Rattle.codes.specs.Meaning.{Meaning, altitudeIs, identityIs, noMode}

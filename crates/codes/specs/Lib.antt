@@ -6,4 +6,3 @@ pub mod Identity
 pub mod Meaning
 pub mod Writing
 pub mod Answers
-pub mod Numbers

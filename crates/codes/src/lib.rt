@@ -1,25 +1,38 @@
-// What a reply's code says: the altitude of mode C, the identity of modes A and 2; and the code of an altitude.
-// Every 16-bit word and every number has an answer: nothing is asked of the caller.
+// What a reply's code says: the types of the answers, the pulses, and the identity of modes A and 2. The definitions are in specs/.
+// Every 16-bit word has an answer: nothing is asked of the caller.
 ghost use mathlib.Core.Path.{_≡_};
-ghost use Rattle.codes.specs.Meaning.{meaning};
-ghost use Rattle.codes.specs.Answers.{meaningAs};
+ghost use Rattle.codes.specs.Pulses.{anyClear};
+ghost use Rattle.codes.specs.Identity.{twelve, identity};
+ghost use Rattle.codes.specs.Answers.{squawkAs};
+use pulses::A1;
+use pulses::A2;
+use pulses::A4;
+use pulses::B1;
+use pulses::B2;
+use pulses::B4;
+use pulses::C1;
+use pulses::C2;
+use pulses::C4;
+use pulses::D1;
+use pulses::D2;
+use pulses::D4;
+use pulses::any_clear;
+use pulses::weighted;
 
-mod mode_a;
-mod mode_c;
-mod numbers;
-mod pulses;
-mod writing;
+pub mod pulses;
 
-pub use mode_a::Squawk;
-pub use mode_a::identity;
-pub use mode_c::PressureAltitude;
-pub use mode_c::altitude;
-pub use numbers::altitude_number;
-pub use numbers::code_number;
-pub use numbers::identity_number;
-pub use numbers::meaning_number;
-pub use writing::Written;
-pub use writing::code_of;
+// The altitude of a mode C reply: feet; unsure, where one of the code's eleven pulses has confidence 0; or none.
+pub enum PressureAltitude {
+    Feet(i32),
+    Unsure,
+    NoAltitude,
+}
+
+// The identity of a reply of mode A or 2: four octal digits; or unsure, where one of their twelve pulses has confidence 0.
+pub enum Squawk {
+    Digits { a: u8, b: u8, c: u8, d: u8 },
+    Unsure,
+}
 
 // What a reply says, by the mode of its sweep.
 pub enum Meaning {
@@ -28,14 +41,33 @@ pub enum Meaning {
     NoMode,
 }
 
-// Mode 3 is C, modes 1 and 2 are A and 2; another number is no mode.
-pub fn meaning_of(mode: u8, code: u16, confidence: u16) -> Meaning
-    ensures { λ r. ⌜ r ≡ meaningAs (meaning mode code confidence) ⌝ }
+// The code of a number of feet, or none where it is no altitude.
+pub enum Written {
+    Code(u16),
+    NoCode,
+}
+
+// Whether one of the twelve pulses of an identity has confidence 0.
+fn is_unsure(confidence: u16) -> bool
+    ensures { λ r. ⌜ r ≡ anyClear twelve confidence ⌝ }
 {
-    match mode {
-        3 => Meaning::Altitude(altitude(code, confidence)),
-        1 => Meaning::Identity(identity(code, confidence)),
-        2 => Meaning::Identity(identity(code, confidence)),
-        _ => Meaning::NoMode,
+    let a = any_clear(confidence, A4, A2, A1);
+    let b = any_clear(confidence, B4, B2, B1);
+    let c = any_clear(confidence, C4, C2, C1);
+    let d = any_clear(confidence, D4, D2, D1);
+    a | (b | (c | d))
+}
+
+// The identity that a code gives, by the confidence of its pulses.
+pub fn identity(code: u16, confidence: u16) -> Squawk
+    ensures { λ r. ⌜ r ≡ squawkAs (identity code confidence) ⌝ }
+{
+    if is_unsure(confidence) {
+        return Squawk::Unsure;
     }
+    let a = weighted(code, A4, A2, A1);
+    let b = weighted(code, B4, B2, B1);
+    let c = weighted(code, C4, C2, C1);
+    let d = weighted(code, D4, D2, D1);
+    Squawk::Digits { a, b, c, d }
 }

@@ -45,9 +45,9 @@ pub fn any_clear(word: u16, x: u16, y: u16, z: u16) -> bool
 }
 
 // Three pulses as a number: the first counts 4, the second 2, the third 1.
-pub fn weighted(word: u16, four: u16, two: u16, one: u16) -> u16
+pub fn weighted(word: u16, four: u16, two: u16, one: u16) -> u8
     requires { ⌜ (0 < four) × (0 < two) × (0 < one) ⌝ }
     ensures { λ r. ⌜ r ≡ 4 * (word / four % 2) + 2 * (word / two % 2) + word / one % 2 ⌝ }
 {
-    4 * (word / four % 2) + 2 * (word / two % 2) + word / one % 2
+    (4 * (word / four % 2) + 2 * (word / two % 2) + word / one % 2) as u8
 }

@@ -1,0 +1,2 @@
+-- Laws of writing, and that reading and writing undo each other.
+pub mod WritingLaws
