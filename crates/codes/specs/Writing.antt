@@ -1,14 +1,14 @@
 -- The code of an altitude: only the eleven pulses of an altitude can be set.
 use Prim.Native.Nat.{ℕ, zero, suc, _+_, _-_, _/_, _%_, _^_}
 use mathlib.Core.Bool.{Bool, _&&_, cond}
-use mathlib.Core.List.{List, [], _∷_}
+use mathlib.Core.List.{List, [], _∷_, _++_}
 use lib.Dec.{eqb}
 use lib.IntN.{ℤ, pos, natAbs, _+ℤ_}
 use lib.ListN.{getD}
 use lib.Signed.{leZ}
 use Rattle.codes.specs.Pulses.{wordOf}
 use Rattle.codes.specs.Gray.{grayOf}
-use Rattle.codes.specs.Altitude.{eight, three, groups, turned, lowest}
+use Rattle.codes.specs.Altitude.{eleven, groups, turned, lowest}
 
 pub data Coded : Type 0 where
   code : ℕ → Coded
@@ -33,7 +33,7 @@ groupOf h = threeDigits (getD groups (h - 1) 0)
 unfoldable pub written : ℕ → ℕ
 written s =
     let n = (s - 1) / 5 in
-    wordOf eight (grayOf 8 n) + wordOf three (groupOf (turned n ((s - 1) % 5 + 1)))
+    wordOf eleven (grayOf 8 n ++ groupOf (turned n ((s - 1) % 5 + 1)))
 
 -- 5 n + h, of an altitude in feet
 abbrev pub stepsTo : ℤ → ℕ

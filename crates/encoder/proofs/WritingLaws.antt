@@ -4,9 +4,10 @@ use native.Mathlib.Omega.{arith}
 use native.Mathlib.Nat.{lt-of-le-of-lt, div-one}
 use mathlib.Core.Path.{_≡_, refl, sym, ap, _∙_, subst}
 use mathlib.Core.Bool.{Bool, true, false, cond, _&&_}
-use mathlib.Core.List.{[], _∷_}
+use mathlib.Core.List.{[], _∷_, _++_}
 use lib.Bits.{bitXor}
 use lib.Dec.{T, leb, ltb, eqb, lit<}
+use lib.ListN.{getD}
 use lib.IntN.{ℤ, pos, negsuc, natAbs, _+ℤ_}
 use Rattle.rules.specs.Samples.{odd}
 use lib.Signed.{ltZ, leZ, mag, nonNeg}
@@ -17,7 +18,7 @@ use borrow.Author.Tests.{ltb-true, ltb-false, leb-true, eqb-true, eqb-false, lt-
 use Rattle.codes.specs.Pulses.{wordOf}
 use Rattle.codes.proofs.GrayLaws.{gray-digit}
 use Rattle.codes.specs.Gray.{grayOf}
-use Rattle.codes.specs.Altitude.{eight, three, turned, lowest}
+use Rattle.codes.specs.Altitude.{eight, three, eleven, groups, turned, lowest}
 use Rattle.codes.specs.Writing.{Coded, code, noCode, highest, hasCode, groupOf, stepsTo, written, codeOf, raised}
 
 -- ---- feet above -1,300 ft
@@ -37,7 +38,7 @@ pub record InRange (z : ℤ) : Type 0 where
   pub low : ltZ z lowest ≡ false
   pub high : ltZ highest z ≡ false
 
-sum-low : (a : ℕ) → a ≤ 999 → negsuc a +ℤ pos 1300 ≡ pos (1299 - a)
+pub sum-low : (a : ℕ) → a ≤ 999 → negsuc a +ℤ pos 1300 ≡ pos (1299 - a)
 sum-low a h = let e : 1300 - suc a ≡ 1299 - a = omega arith in rw (le-ltb 1300 (suc a) (omega arith)) (ap pos e)
 
 -- feet above -1,300 ft are a natural number
@@ -174,6 +175,15 @@ turned-least n h l m = go (odd n)
     go true = (omega arith, omega arith)
     go false = (l, m)
 
+-- eight digits and three make a word of eleven
+joined : (d₇ d₆ d₅ d₄ d₃ d₂ d₁ d₀ c₁ c₂ c₄ : ℕ)
+    → wordOf eight (d₇ ∷ d₆ ∷ d₅ ∷ d₄ ∷ d₃ ∷ d₂ ∷ d₁ ∷ d₀ ∷ []) + wordOf three (c₁ ∷ c₂ ∷ c₄ ∷ [])
+    ≡ wordOf eleven (d₇ ∷ d₆ ∷ d₅ ∷ d₄ ∷ d₃ ∷ d₂ ∷ d₁ ∷ d₀ ∷ c₁ ∷ c₂ ∷ c₄ ∷ [])
+joined d₇ d₆ d₅ d₄ d₃ d₂ d₁ d₀ c₁ c₂ c₄ = omega arith
+
+gray-at : ℕ → ℕ → ℕ
+gray-at n k = (n / 2 ^ k + n / 2 ^ suc k) % 2
+
 -- s - 1 steps are n times five and h - 1; the code found a and b, the words of n and of h as it is counted
 module _ (s : ℕ) {t : ℕ} (e : t ≡ turned ((s - 1) / 5) ((s - 1) % 5 + 1)) where
   pub one-to-five : (1 ≤ t) × (t ≤ 5)
@@ -182,8 +192,13 @@ module _ (s : ℕ) {t : ℕ} (e : t ≡ turned ((s - 1) / 5) ((s - 1) % 5 + 1)) 
       (omega (arith, e, l .0), omega (arith, e, l .1))
 
   pub word-found : {a b : ℕ} → a ≡ wordOf eight (grayOf 8 ((s - 1) / 5)) → b ≡ wordOf three (groupOf t) → a + b ≡ written s
-  unfolding written
-  word-found f g = cc
+  unfolding written gray-at
+  word-found {a} {b} f g =
+      let n = (s - 1) / 5 in
+      let c = getD groups (t - 1) 0 in
+      (λ i. f i + g i)
+      ∙ joined (gray-at n 7) (gray-at n 6) (gray-at n 5) (gray-at n 4) (gray-at n 3) (gray-at n 2) (gray-at n 1) (gray-at n 0) (c / 4 % 2) (c / 2 % 2) (c % 2)
+      ∙ ap (λ (h : ℕ). wordOf eleven (grayOf 8 n ++ groupOf h)) e
 
 -- ---- the eight pulses of n
 
