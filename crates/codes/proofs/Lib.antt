@@ -2,3 +2,4 @@
 pub mod PulseLaws
 pub mod GrayLaws
 pub mod IdentityLaws
+pub mod Dependence

@@ -6,3 +6,4 @@ pub mod Identity
 pub mod Meaning
 pub mod Writing
 pub mod Answers
+pub mod Depends

@@ -14,7 +14,7 @@ use Rattle.codes.specs.Altitude.{eleven}
 
 -- ---- a test that all lists of k digits pass
 
-passes : ℕ → (List ℕ → Bool) → Bool
+unfoldable pub passes : ℕ → (List ℕ → Bool) → Bool
 passes zero f = f []
 passes (suc k) f = passes k (λ ds. f (0 ∷ ds)) && passes k (λ ds. f (1 ∷ ds))
 
@@ -23,7 +23,7 @@ pub record Digits (k : ℕ) (ds : List ℕ) : Type 0 where
   pub count : length ds ≡ k
   pub each : All (λ d. d < 2) ds
 
-passed : (k : ℕ) (f : List ℕ → Bool) → passes k f ≡ true → (ds : List ℕ) → length ds ≡ k → All (λ d. d < 2) ds → f ds ≡ true
+pub passed : (k : ℕ) (f : List ℕ → Bool) → passes k f ≡ true → (ds : List ℕ) → length ds ≡ k → All (λ d. d < 2) ds → f ds ≡ true
 unfolding passes
 passed zero f t [] e a = t
 passed zero f t (d ∷ ds) e a = absurd (omega arith)

@@ -1,7 +1,7 @@
 -- Altitudes and their codes, both ways: the steps of a written code are those that were written, and the digits of a code that has steps are the written ones.
 use Prim.Native.Nat.{ℕ, zero, suc, _+_, _-_, _*_, _/_, _%_, _^_, _≤_, _<_}
 use native.Mathlib.Omega.{arith}
-use native.Mathlib.Nat.{div-eq-of-lt}
+use native.Mathlib.Nat.{div-eq-of-lt, le-of-lt}
 use mathlib.Core.Path.{_≡_, refl, sym, ap, _∙_}
 use mathlib.Core.Bool.{Bool, true, false, cond, _&&_, _||_}
 use mathlib.Core.List.{List, [], _∷_, _++_}
@@ -12,7 +12,7 @@ use lib.Signed.{ltZ}
 use borrow.Author.Tests.{ltb-true, ltb-false, leb-true, eqb-true, eqb-false, lt-ltb, le-ltb, le-leb, eq-eqb, ne-eqb}
 use Rattle.rules.specs.Lists.{All}
 use Rattle.rules.specs.Samples.{odd, bit}
-use Rattle.rules.proofs.Truth.{impossible, or-left, or-right}
+use Rattle.rules.proofs.Truth.{impossible, or-left, or-right, or-second}
 use Rattle.codes.specs.Pulses.{C1, C2, C4, D1, digit, digitsAt, clear, anyClear, weighted, wordOf}
 use Rattle.codes.specs.Gray.{gray, grayFrom, grayOf}
 use Rattle.codes.specs.Altitude.{Altitude, feet, unsure, none, eight, three as three-pulses, eleven, fiveHundreds, group, groups, hundreds, turned, stepsBy, steps, feetAt, lowest, hasNone, altitude}
@@ -20,9 +20,9 @@ use Rattle.codes.specs.Writing.{code, noCode, threeDigits, groupOf, written, co
 use Rattle.codes.proofs.GrayLaws.{read-written, written-read}
 use Rattle.altitudes.proofs.Feet.{feet-low, feet-high, below-lowest}
 use Rattle.altitudes.proofs.AltitudeLaws.{five-hundreds-below, in-feet}
-use Rattle.encoder.specs.RoundTrip.{level, elevenOf, CodeOf, RoundTrip}
+use Rattle.encoder.specs.RoundTrip.{level, elevenOf, CodeOf, differing, RoundTrip}
 use Rattle.encoder.proofs.WritingLaws.{sum-low, codeAt, code-is, raised-most, turned-least}
-use Rattle.encoder.proofs.DigitLaws.{Digits, digits-back, d1-clear}
+use Rattle.encoder.proofs.DigitLaws.{passes, passed, Digits, digits-back, d1-clear}
 
 -- ---- levels, steps and feet above -1,300 ft
 
@@ -304,16 +304,18 @@ module _ (w : ℕ) (e : hasNone w ≡ false) where
 
 -- ---- the theorem
 
+wrote-level : (k : ℕ) → k ≤ 1277 → codeOf (level k) ≡ code (written (k + 3))
+wrote-level k l = ap codeOf (level-feet k) ∙ code-of-feet (k + 3) (omega arith) (omega arith)
+
 back-law : (k : ℕ) → k ≤ 1277 → (w : ℕ) × CodeOf k w
 back-law k l =
-    let s = k + 3 in
-    let p : 3 ≤ s = omega arith in
-    let q : s ≤ 1280 = omega arith in (
-      written s,
+    let p : 3 ≤ k + 3 = omega arith in
+    let q : k + 3 ≤ 1280 = omega arith in (
+      written (k + 3),
       record {
-        wrote = ap codeOf (level-feet k) ∙ code-of-feet s p q;
-        others-clear = eleven-written s p q;
-        reads = λ confidence u. read-feet s p q confidence u ∙ ap feet (sym (level-feet k));
+        wrote = wrote-level k l;
+        others-clear = eleven-written (k + 3) p q;
+        reads = λ confidence u. read-feet (k + 3) p q confidence u ∙ ap feet (sym (level-feet k));
       },
     )
 
@@ -353,5 +355,42 @@ no-other-law z f = code-is z ∙ go (eqb (raised z) 0) (eqb (raised z % 100) 0) 
         absurd
         (f (raised z / 100 - 3) (omega (arith, raised-most z)) (sym (level-of z (eqb-false (raised z) 0 p) (eqb-true (raised z % 100) 0 q))))
 
+-- ---- neighbours, by a test of each list of eleven digits
+
+apartTest : List ℕ → Bool
+apartTest ds =
+    let v = wordOf eleven ds in
+    eqb (hundreds (group v)) 0 || (ltb 1279 (steps v) || eqb (differing v (written (steps v + 1))) 1)
+
+all-apart : passes 11 apartTest ≡ true
+unfolding passes apartTest steps fiveHundreds written
+all-apart = refl
+
+module _ (s : ℕ) (l : 3 ≤ s) (m : s < 1280) where
+  tested : (eqb (hundreds (group (written s))) 0 || (ltb 1279 (steps (written s)) || eqb (differing (written s) (written (steps (written s) + 1))) 1)) ≡ true
+  unfolding apartTest written written-digits n h₀
+  tested =
+      let ds = written-digits (n s l (le-of-lt m)) (turned (n s l (le-of-lt m)) (h₀ s l (le-of-lt m))) in
+      let d = are-digits (n s l (le-of-lt m)) (turned (n s l (le-of-lt m)) (h₀ s l (le-of-lt m))) in
+      passed 11 apartTest all-apart ds (d .count) (d .each)
+
+  apart : differing (written s) (written (s + 1)) ≡ 1
+  apart =
+      let e = steps-written s l (le-of-lt m) in
+      let group-there : eqb (hundreds (group (written s))) 0 ≡ false = ne-eqb (hundreds (group (written s))) 0 (group-written s l (le-of-lt m)) in
+      let not-last : ltb 1279 (steps (written s)) ≡ false = le-ltb 1279 (steps (written s)) (omega (arith, e)) in
+      let one-apart : eqb (differing (written s) (written (steps (written s) + 1))) 1 ≡ true = or-second _ _ not-last (or-second _ _ group-there tested) in
+      ap (λ (t : ℕ). differing (written s) (written (t + 1))) (sym e) ∙ eqb-true (differing (written s) (written (steps (written s) + 1))) 1 one-apart
+
+codes-same : {v w : ℕ} → code v ≡ code w → v ≡ w
+codes-same e = cc
+
+neighbours-law : (k v w : ℕ) → k < 1277 → codeOf (level k) ≡ code v → codeOf (level (k + 1)) ≡ code w → differing v w ≡ 1
+neighbours-law k v w l p q =
+    let same-v : v ≡ written (k + 3) = codes-same (sym p ∙ wrote-level k (omega arith)) in
+    let same-w : w ≡ written (k + 1 + 3) = codes-same (sym q ∙ wrote-level (k + 1) (omega arith)) in
+    let next : k + 1 + 3 ≡ k + 3 + 1 = omega arith in
+    (λ i. differing (same-v i) (same-w i)) ∙ ap (λ (t : ℕ). differing (written (k + 3)) (written t)) next ∙ apart (k + 3) (omega arith) (omega arith)
+
 pub round-trip : RoundTrip
-round-trip = record { back = back-law; no-other = no-other-law; once = once-law }
+round-trip = record { back = back-law; no-other = no-other-law; once = once-law; neighbours = neighbours-law }

@@ -1,9 +1,11 @@
 -- Altitudes and their codes, both ways.
 use Prim.Native.Nat.{ℕ, _+_, _*_, _≤_, _<_}
-use mathlib.Core.Bool.{false}
+use mathlib.Core.Bool.{false, not}
 use mathlib.Core.Path.{_≡_}
+use lib.Dec.{eqb}
 use lib.IntN.{ℤ, pos, _+ℤ_}
-use Rattle.codes.specs.Pulses.{digitsAt, anyClear, wordOf}
+use Rattle.rules.specs.Lists.{count}
+use Rattle.codes.specs.Pulses.{digit, digitsAt, anyClear, wordOf}
 use Rattle.codes.specs.Altitude.{eleven, feet, lowest, altitude}
 use Rattle.codes.specs.Writing.{code, noCode, codeOf}
 
@@ -21,6 +23,10 @@ pub record CodeOf (k w : ℕ) : Type 0 where
   pub others-clear : elevenOf w ≡ w
   pub reads : (confidence : ℕ) → anyClear eleven confidence ≡ false → altitude w confidence ≡ feet (level k)
 
+-- in how many of the eleven pulses two words differ
+abbrev pub differing : ℕ → ℕ → ℕ
+differing v w = count (λ p. not (eqb (digit v p) (digit w p))) eleven
+
 pub record RoundTrip : Type 0 where
   -- each multiple of 100 ft from -1,000 to 126,700 comes back through the writer and the reader
   pub back : (k : ℕ) → k ≤ 1277 → (w : ℕ) × CodeOf k w
@@ -28,3 +34,5 @@ pub record RoundTrip : Type 0 where
   pub no-other : (z : ℤ) → ((k : ℕ) → k ≤ 1277 → z ≡ level k → ⊥) → codeOf z ≡ noCode
   -- a code that reads as feet is the writer's for those feet in its eleven pulses: so no altitude has two codes
   pub once : (w confidence : ℕ) (z : ℤ) → altitude w confidence ≡ feet z → codeOf z ≡ code (elevenOf w)
+  -- neighbours differ in one pulse alone, as Gray code wants it
+  pub neighbours : (k v w : ℕ) → k < 1277 → codeOf (level k) ≡ code v → codeOf (level (k + 1)) ≡ code w → differing v w ≡ 1
