@@ -1,20 +1,20 @@
 -- The altitude of a code, by the tests that the code makes in their order.
-use Prim.Native.Nat.{ℕ, _-_, _≤_, _<_}
+use Prim.Native.Nat.{ℕ, _-_, _/_, _%_, _^_, _≤_, _<_}
 use native.Mathlib.Omega.{arith}
 use mathlib.Core.Path.{_≡_, refl, sym, ap, _∙_}
-use mathlib.Core.Bool.{Bool, true, false, cond}
-use lib.Dec.{eqb, lit<, lit≤}
+use mathlib.Core.Bool.{Bool, true, false, not, _||_, cond}
+use lib.Dec.{eqb, ltb, lit<, lit≤}
 use native.Mathlib.Nat.{lt-of-le-of-lt}
 use lib.IntN.{ℤ}
 use mir.Syntax.{w32}
 use mir.Val.{toZ, ofZ}
 use mir.ValLaws.{toZ-ofZ}
-use Rattle.rules.specs.Samples.{odd, bit}
+use Rattle.rules.specs.Samples.{odd}
 use borrow.Author.Tests.{eqb-true, eqb-false, eq-eqb, ne-eqb}
-use Rattle.codes.specs.Pulses.{A1, A2, A4, B1, B2, B4, D1, D2, D4, digit, digitsAt, anyClear}
+use Rattle.codes.specs.Pulses.{A1, A2, A4, B1, B2, B4, D1, D2, D4, digit, digitsAt, clear, anyClear}
 use Rattle.codes.specs.Gray.{withDigit}
 use Rattle.codes.specs.Altitude.{Altitude, feet, unsure, none, eleven, eight, fiveHundreds, hundreds, group, turned, stepsBy, steps, feetAt, hasNone, altitude}
-use Rattle.altitudes.proofs.Feet.{below-lowest, not-below, feet-fit}
+use Rattle.altitudes.proofs.Feet.{below-lowest, feet-fit}
 use Rattle.codes.proofs.GrayLaws.{gray-below}
 
 pub five-hundreds-below : (code : ℕ) → fiveHundreds code < 256
@@ -50,35 +50,33 @@ turned-most n h l = go (odd n)
     go true = omega arith
     go false = omega arith
 
+-- ---- the answer, by the tests
+
+-- no altitude, by the group, by D1 and by the steps
+pub none-is : (code : ℕ) → hasNone code ≡ (eqb (hundreds (group code)) 0 || (not (clear code D1) || ltb (steps code) 3))
+unfolding hasNone
+none-is code = rw (below-lowest (steps code), set (code / 2 ^ D1))
+  where
+    set : (x : ℕ) → eqb (x % 2) 1 ≡ not (eqb (x % 2) 0)
+    set x = go (eqb (x % 2) 0) refl
+      where
+        go : (b : Bool) → eqb (x % 2) 0 ≡ b → eqb (x % 2) 1 ≡ not b
+        go true e = ne-eqb (x % 2) 1 (λ f. omega (arith, eqb-true (x % 2) 0 e))
+        go false e = eq-eqb (x % 2) 1 (omega (arith, eqb-false (x % 2) 0 e))
+
 module _ (code confidence : ℕ) where
   pub is-unsure : anyClear eleven confidence ≡ true → altitude code confidence ≡ unsure
   unfolding altitude
   is-unsure u = rw u
 
   module _ (u : anyClear eleven confidence ≡ false) where
-    pub other-group : hundreds (group code) ≡ 0 → altitude code confidence ≡ none
-    unfolding altitude hasNone
-    other-group h = rw (u, eq-eqb (hundreds (group code)) 0 h)
+    pub is-none : hasNone code ≡ true → altitude code confidence ≡ none
+    unfolding altitude
+    is-none h = rw (u, h)
 
-    module _ (h : hundreds (group code) ≡ 0 → ⊥) where
-      pub d1-set : eqb (digit code D1) 0 ≡ false → altitude code confidence ≡ none
-      unfolding altitude hasNone
-      d1-set d = rw (u, ne-eqb (hundreds (group code)) 0 h, set d)
-        where
-          set : eqb (digit code D1) 0 ≡ false → bit D1 code ≡ true
-          set e = eq-eqb (digit code D1) 1 (omega (arith, eqb-false (digit code D1) 0 e))
-
-      module _ (d : eqb (digit code D1) 0 ≡ true) where
-        not-set : bit D1 code ≡ false
-        not-set = ne-eqb (digit code D1) 1 (λ e. omega (arith, eqb-true (digit code D1) 0 d))
-
-        pub too-low : steps code < 3 → altitude code confidence ≡ none
-        unfolding altitude hasNone
-        too-low l = rw (u, ne-eqb (hundreds (group code)) 0 h, not-set, below-lowest (steps code) l)
-
-        pub in-feet : 3 ≤ steps code → altitude code confidence ≡ feet (feetAt (steps code))
-        unfolding altitude hasNone
-        in-feet l = rw (u, ne-eqb (hundreds (group code)) 0 h, not-set, not-below (steps code) l)
+    pub is-feet : hasNone code ≡ false → altitude code confidence ≡ feet (feetAt (steps code))
+    unfolding altitude
+    is-feet h = rw (u, h)
 
 pub steps-most : (code : ℕ) → steps code ≤ 1281
 unfolding steps
@@ -92,11 +90,8 @@ module _ (code : ℕ) {h s : ℕ} (e : h ≡ hundreds (group code)) (f : s ≡ s
   unfolding steps
   found = f ∙ ap (stepsBy (fiveHundreds code)) e
 
-  pub steps-below : s < 3 → steps code < 3
-  steps-below l = omega (arith, found)
-
-  pub steps-from : 3 ≤ s → 3 ≤ steps code
-  steps-from l = omega (arith, found)
+  pub none-found : {d : Bool} → d ≡ clear code D1 → (eqb h 0 || (not d || ltb s 3)) ≡ hasNone code
+  none-found g = (λ i. eqb (e i) 0 || (not (g i) || ltb (found i) 3)) ∙ sym (none-is code)
 
   pub feet-found : {z : ℤ} → z ≡ feetAt s → toZ w32 (ofZ w32 z) ≡ feetAt (steps code)
   feet-found {z} g =

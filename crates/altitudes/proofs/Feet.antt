@@ -32,15 +32,14 @@ feet-high s h = rw (less-high s h)
 
 -- ---- below -1,000 ft
 
-pub below-lowest : (s : ℕ) → s < 3 → ltZ (feetAt s) lowest ≡ true
-below-lowest s h = rw (feet-low s (omega arith)) (lt-ltb 999 (1299 - 100 * s) (omega arith))
-
-pub not-below : (s : ℕ) → 3 ≤ s → ltZ (feetAt s) lowest ≡ false
-not-below s h = go (ltb s 13) refl
+pub below-lowest : (s : ℕ) → ltZ (feetAt s) lowest ≡ ltb s 3
+below-lowest s = go (ltb s 13) (ltb s 3) refl refl
   where
-    go : (b : Bool) → ltb s 13 ≡ b → ltZ (feetAt s) lowest ≡ false
-    go true e = rw (feet-low s (ltb-true s 13 e)) (le-ltb 999 (1299 - 100 * s) (omega (arith, ltb-true s 13 e)))
-    go false e = rw (feet-high s (ltb-false s 13 e))
+    go : (b d : Bool) → ltb s 13 ≡ b → ltb s 3 ≡ d → ltZ (feetAt s) lowest ≡ d
+    go true true e f = rw (feet-low s (ltb-true s 13 e)) (lt-ltb 999 (1299 - 100 * s) (omega (arith, ltb-true s 3 f)))
+    go true false e f = rw (feet-low s (ltb-true s 13 e)) (le-ltb 999 (1299 - 100 * s) (omega (arith, ltb-true s 13 e, ltb-false s 3 f)))
+    go false true e f = absurd (omega (arith, ltb-false s 13 e, ltb-true s 3 f))
+    go false false e f = rw (feet-high s (ltb-false s 13 e))
 
 -- ---- what the code computes, of s below 65,536
 

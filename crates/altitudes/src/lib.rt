@@ -10,21 +10,7 @@ ghost use Rattle.codes.specs.Answers.{altitudeAs, meaningAs};
 use codes::Meaning;
 use codes::PressureAltitude;
 use codes::identity;
-use codes::pulses::A1;
-use codes::pulses::A2;
-use codes::pulses::A4;
-use codes::pulses::B1;
-use codes::pulses::B2;
-use codes::pulses::B4;
-use codes::pulses::C1;
-use codes::pulses::C2;
-use codes::pulses::C4;
-use codes::pulses::D1;
-use codes::pulses::D2;
-use codes::pulses::D4;
-use codes::pulses::any_clear;
-use codes::pulses::is_clear;
-use codes::pulses::weighted;
+use codes::pulses::*;
 
 // Whether one of the eleven pulses of an altitude has confidence 0.
 fn is_unsure(confidence: u16) -> bool
@@ -101,25 +87,22 @@ fn feet_at(s: u16) -> i32
     100 * (s as i32 - 13)
 }
 
-// The altitude that a code gives, by the confidence of its pulses.
+// The altitude that a code gives, by the confidence of its pulses. There is none for another group, for D1 and below -1,000 ft (3 steps); unsure wins.
 pub fn altitude(code: u16, confidence: u16) -> PressureAltitude
     ensures { λ r. ⌜ r ≡ altitudeAs (altitude code confidence) ⌝ }
 {
-    if is_unsure(confidence) {
+    let unsure = is_unsure(confidence);
+    let h = hundreds_of(code);
+    let s = steps_of(code, h);
+    let none = (h == 0) | (!is_clear(code, D1) | (s < 3));
+    let feet = feet_at(s);
+    if unsure {
         return PressureAltitude::Unsure;
     }
-    let h = hundreds_of(code);
-    if h == 0 {
+    if none {
         return PressureAltitude::NoAltitude;
     }
-    if !is_clear(code, D1) {
-        return PressureAltitude::NoAltitude;
-    }
-    let s = steps_of(code, h);
-    if s < 3 {
-        return PressureAltitude::NoAltitude;
-    }
-    PressureAltitude::Feet(feet_at(s))
+    PressureAltitude::Feet(feet)
 }
 
 // What a reply says: the altitude in mode 3, the identity in modes 1 and 2. Another number is no mode.

@@ -4,20 +4,7 @@ ghost use mathlib.Core.Path.{_≡_};
 ghost use Rattle.codes.specs.Pulses.{anyClear};
 ghost use Rattle.codes.specs.Identity.{twelve, identity};
 ghost use Rattle.codes.specs.Answers.{squawkAs};
-use pulses::A1;
-use pulses::A2;
-use pulses::A4;
-use pulses::B1;
-use pulses::B2;
-use pulses::B4;
-use pulses::C1;
-use pulses::C2;
-use pulses::C4;
-use pulses::D1;
-use pulses::D2;
-use pulses::D4;
-use pulses::any_clear;
-use pulses::weighted;
+use pulses::*;
 
 pub mod pulses;
 

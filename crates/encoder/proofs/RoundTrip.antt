@@ -3,7 +3,7 @@ use Prim.Native.Nat.{ℕ, zero, suc, _+_, _-_, _*_, _/_, _%_, _^_, _≤_, _<_}
 use native.Mathlib.Omega.{arith}
 use native.Mathlib.Nat.{div-eq-of-lt, le-of-lt}
 use mathlib.Core.Path.{_≡_, refl, sym, ap, _∙_}
-use mathlib.Core.Bool.{Bool, true, false, cond, _&&_, _||_}
+use mathlib.Core.Bool.{Bool, true, false, not, cond, _&&_, _||_}
 use mathlib.Core.List.{List, [], _∷_, _++_}
 use lib.Dec.{leb, ltb, eqb}
 use lib.IntN.{ℤ, pos, negsuc, natAbs, _+ℤ_}
@@ -11,15 +11,15 @@ use lib.ListN.{length, getD, take}
 use lib.Signed.{ltZ}
 use borrow.Author.Tests.{ltb-true, ltb-false, leb-true, eqb-true, eqb-false, lt-ltb, le-ltb, le-leb, eq-eqb, ne-eqb}
 use Rattle.rules.specs.Lists.{All}
-use Rattle.rules.specs.Samples.{odd, bit}
-use Rattle.rules.proofs.Truth.{impossible, or-left, or-right, or-second}
+use Rattle.rules.specs.Samples.{odd}
+use Rattle.rules.proofs.Truth.{or-left, or-right, or-second}
 use Rattle.codes.specs.Pulses.{C1, C2, C4, D1, digit, digitsAt, clear, anyClear, weighted, wordOf}
 use Rattle.codes.specs.Gray.{gray, grayFrom, grayOf}
 use Rattle.codes.specs.Altitude.{Altitude, feet, unsure, none, eight, three as three-pulses, eleven, fiveHundreds, group, groups, hundreds, turned, stepsBy, steps, feetAt, lowest, hasNone, altitude}
 use Rattle.codes.specs.Writing.{code, noCode, threeDigits, groupOf, written, codeOf, raised}
 use Rattle.codes.proofs.GrayLaws.{read-written, written-read}
-use Rattle.altitudes.proofs.Feet.{feet-low, feet-high, below-lowest}
-use Rattle.altitudes.proofs.AltitudeLaws.{five-hundreds-below, in-feet}
+use Rattle.altitudes.proofs.Feet.{feet-low, feet-high}
+use Rattle.altitudes.proofs.AltitudeLaws.{five-hundreds-below, none-is, is-feet}
 use Rattle.encoder.specs.RoundTrip.{level, elevenOf, CodeOf, differing, RoundTrip}
 use Rattle.encoder.proofs.WritingLaws.{sum-low, codeAt, code-is, raised-most, turned-least}
 use Rattle.encoder.proofs.DigitLaws.{passes, passed, Digits, digits-back, d1-clear}
@@ -182,10 +182,13 @@ module _ (s : ℕ) (l : 3 ≤ s) (m : s ≤ 1280) where
   unfolding written written-digits n h₀
   eleven-written = ap (wordOf eleven) (digits-back (written-digits n (turned n h₀)) (are-digits n (turned n h₀)))
 
+  has-written : hasNone (written s) ≡ false
+  has-written =
+      none-is (written s)
+      ∙ (rw (ne-eqb (hundreds (group (written s))) 0 group-written, d1-written, le-ltb (steps (written s)) 3 (omega (arith, steps-written))))
+
   pub read-feet : (confidence : ℕ) → anyClear eleven confidence ≡ false → altitude (written s) confidence ≡ feet (feetAt s)
-  read-feet confidence u =
-      let least : 3 ≤ steps (written s) = omega (arith, steps-written) in
-      in-feet (written s) confidence u group-written d1-written least ∙ ap (λ (t : ℕ). feet (feetAt t)) steps-written
+  read-feet confidence u = is-feet (written s) confidence u has-written ∙ ap (λ (t : ℕ). feet (feetAt t)) steps-written
 
 -- ---- a code that reads as feet is the written one
 
@@ -273,23 +276,16 @@ reads-feet w confidence z e = go (anyClear eleven confidence) (hasNone w) refl e
     go false false p q = record { has = p; is = cc }
 
 module _ (w : ℕ) (e : hasNone w ≡ false) where
-  some-group : hundreds (group w) ≡ 0 → ⊥
-  unfolding hasNone
-  some-group z =
-      eqb-false (hundreds (group w)) 0 (or-left (eqb (hundreds (group w)) 0) (bit D1 w || ltZ (feetAt (steps w)) lowest) e) z
+  tests : (eqb (hundreds (group w)) 0 || (not (clear w D1) || ltb (steps w) 3)) ≡ false
+  tests = sym (none-is w) ∙ e
 
-  not-low : ltZ (feetAt (steps w)) lowest ≡ false
-  unfolding hasNone
-  not-low =
-      or-right (bit D1 w) (ltZ (feetAt (steps w)) lowest)
-      (or-right (eqb (hundreds (group w)) 0) (bit D1 w || ltZ (feetAt (steps w)) lowest) e)
+  some-group : hundreds (group w) ≡ 0 → ⊥
+  some-group = eqb-false (hundreds (group w)) 0 (or-left (eqb (hundreds (group w)) 0) (not (clear w D1) || ltb (steps w) 3) tests)
 
   least : 3 ≤ steps w
-  least = go (ltb (steps w) 3) refl
-    where
-      go : (b : Bool) → ltb (steps w) 3 ≡ b → 3 ≤ steps w
-      go true l = absurd (impossible (sym (below-lowest (steps w) (ltb-true (steps w) 3 l)) ∙ not-low))
-      go false l = ltb-false (steps w) 3 l
+  least =
+      ltb-false (steps w) 3
+      (or-right (not (clear w D1)) (ltb (steps w) 3) (or-right (eqb (hundreds (group w)) 0) (not (clear w D1) || ltb (steps w) 3) tests))
 
   most : steps w ≤ 1280
   unfolding steps

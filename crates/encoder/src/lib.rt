@@ -8,17 +8,7 @@ ghost use Rattle.codes.specs.Writing.{groupOf, raised, written, codeOf};
 ghost use Rattle.codes.specs.Answers.{writtenAs};
 use altitudes::turned_at;
 use codes::Written;
-use codes::pulses::A1;
-use codes::pulses::A2;
-use codes::pulses::A4;
-use codes::pulses::B1;
-use codes::pulses::B2;
-use codes::pulses::B4;
-use codes::pulses::C1;
-use codes::pulses::C2;
-use codes::pulses::C4;
-use codes::pulses::D2;
-use codes::pulses::D4;
+use codes::pulses::*;
 
 // Feet above -1,300 ft, from -1,000 to 126,700 ft; 0 for another number.
 fn raised_of(feet: i32) -> u32

@@ -2,22 +2,16 @@ use Rattle.altitudes.proofs.Feet.{less-fits, product-fits, feet-compute
 use borrow.Author.Needs.{needs}
 use Rattle.altitudes.proofs.feet_at.Statement.{statement}
 use Rattle.altitudes.proofs.feet_at.Tie as tie
-use Rattle.altitudes.proofs.feet_at.Reads as reads
-use Rattle.altitudes.proofs.feet_at.Lts as lts
 
--- src/mode_c.rt:92:12
 cast-result : tie.Need-cast-result
 cast-result c = search needs
 
--- src/mode_c.rt:92:12
 sub-result : tie.Need-sub-result
 sub-result c = less-fits (c .args .s) (c .fits .s .fits)
 
--- src/mode_c.rt:92:5
 mul-result : tie.Need-mul-result
 mul-result c = product-fits (c .args .s) (c .fits .s .fits)
 
--- src/mode_c.rt:89:1
 returns : tie.Need-returns
 returns c = feet-computed (c .args .s) (c .fits .s .fits)
 

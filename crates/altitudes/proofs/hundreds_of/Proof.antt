@@ -4,35 +4,25 @@ use Rattle.altitudes.proofs.AltitudeLaws.{no-group}
 use borrow.Author.Needs.{needs}
 use Rattle.altitudes.proofs.hundreds_of.Statement.{statement}
 use Rattle.altitudes.proofs.hundreds_of.Tie as tie
-use Rattle.altitudes.proofs.hundreds_of.Reads as reads
-use Rattle.altitudes.proofs.hundreds_of.Lts as lts
-use Rattle.codes.proofs.pulses.weighted.Reads as weighted-reads
 
--- src/mode_c.rt:68:9
 weighted-requires : tie.Need-weighted-requires
 weighted-requires c κs = search needs
 
--- src/mode_c.rt:65:1
 returns : tie.Need-returns
 returns c = ap hundreds (sym (c .match .keys1) ∙ c .before .weighted .ensures)
 
--- src/mode_c.rt:65:1
 returns-2 : tie.Need-returns-2
 returns-2 c = ap hundreds (sym (c .match .keys2) ∙ c .before .weighted .ensures)
 
--- src/mode_c.rt:65:1
 returns-3 : tie.Need-returns-3
 returns-3 c = ap hundreds (sym (c .match .keys3) ∙ c .before .weighted .ensures)
 
--- src/mode_c.rt:65:1
 returns-4 : tie.Need-returns-4
 returns-4 c = ap hundreds (sym (c .match .keys4) ∙ c .before .weighted .ensures)
 
--- src/mode_c.rt:65:1
 returns-5 : tie.Need-returns-5
 returns-5 c = ap hundreds (sym (c .match .keys5) ∙ c .before .weighted .ensures)
 
--- src/mode_c.rt:65:1
 returns-6 : tie.Need-returns-6
 returns-6 c =
     let other = c .match .rest in

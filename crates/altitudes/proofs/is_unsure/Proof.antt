@@ -2,32 +2,22 @@ use Rattle.codes.proofs.PulseLaws.{eleven-clear}
 use borrow.Author.Needs.{needs}
 use Rattle.altitudes.proofs.is_unsure.Statement.{statement}
 use Rattle.altitudes.proofs.is_unsure.Tie as tie
-use Rattle.altitudes.proofs.is_unsure.Reads as reads
-use Rattle.altitudes.proofs.is_unsure.Lts as lts
-use Rattle.codes.proofs.pulses.any_clear.Reads as any-clear-reads
-use Rattle.codes.proofs.pulses.is_clear.Reads as is-clear-reads
 
--- src/mode_c.rt:34:16
 is-clear-requires : tie.Need-is-clear-requires
 is-clear-requires c κs = search needs
 
--- src/mode_c.rt:34:43
 is-clear-requires-2 : tie.Need-is-clear-requires-2
 is-clear-requires-2 c κs = search needs
 
--- src/mode_c.rt:35:9
 any-clear-requires : tie.Need-any-clear-requires
 any-clear-requires c κs = search needs
 
--- src/mode_c.rt:36:9
 any-clear-requires-2 : tie.Need-any-clear-requires-2
 any-clear-requires-2 c κs = search needs
 
--- src/mode_c.rt:37:9
 any-clear-requires-3 : tie.Need-any-clear-requires-3
 any-clear-requires-3 c κs = search needs
 
--- src/mode_c.rt:31:1
 returns : tie.Need-returns
 returns c =
     eleven-clear (c .before .before .before .before .before .args .confidence) (c .before .before .before .before .is-clear .ensures) (c .before .before .before .is-clear2 .ensures) (c .before .before .any-clear .ensures) (c .before .any-clear2 .ensures) (c .any-clear3 .ensures)

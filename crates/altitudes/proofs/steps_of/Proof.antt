@@ -6,31 +6,22 @@ use Rattle.altitudes.proofs.AltitudeLaws.{five-hundreds-below, turned-m
 use borrow.Author.Needs.{needs}
 use Rattle.altitudes.proofs.steps_of.Statement.{statement}
 use Rattle.altitudes.proofs.steps_of.Tie as tie
-use Rattle.altitudes.proofs.steps_of.Reads as reads
-use Rattle.altitudes.proofs.steps_of.Lts as lts
-use Rattle.altitudes.proofs.five_hundreds.Reads as five-hundreds-reads
-use Rattle.altitudes.proofs.turned_at.Reads as turned-at-reads
 
--- src/mode_c.rt:95:9
 five-hundreds-requires : tie.Need-five-hundreds-requires
 five-hundreds-requires c κs = search needs
 
--- src/mode_c.rt:96:5
 mul-result : tie.Need-mul-result
 mul-result c = omega (arith, five-hundreds-below (c .before .args .code), c .five-hundreds .ensures)
 
--- src/mode_c.rt:96:13
 turned-at-requires : tie.Need-turned-at-requires
 turned-at-requires c κs = search needs
 
--- src/mode_c.rt:96:5
 add-result : tie.Need-add-result
 add-result c =
     let s = c .before .before in
     omega
     (arith, five-hundreds-below (s .args .code), c .before .five-hundreds .ensures, c .turned-at .ensures, turned-most (c .before .five-hundreds .result) (s .args .h) (s .pre))
 
--- src/mode_c.rt:91:1
 returns : tie.Need-returns
 returns c =
     let h = c .before .before .args .h in

@@ -3,18 +3,13 @@ use borrow.Author.Tests.{eq-eqb, ne-eqb}
 use borrow.Author.Needs.{needs}
 use Rattle.altitudes.proofs.turned_at.Statement.{statement}
 use Rattle.altitudes.proofs.turned_at.Tie as tie
-use Rattle.altitudes.proofs.turned_at.Reads as reads
-use Rattle.altitudes.proofs.turned_at.Lts as lts
 
--- src/mode_c.rt:83:16
 sub-result : tie.Need-sub-result
 sub-result c = search needs
 
--- src/mode_c.rt:83:9
 returns : tie.Need-returns
 returns c = rw (eq-eqb (c .before .args .n % 2) 1 (c .if1 .taken))
 
--- src/mode_c.rt:78:1
 returns-2 : tie.Need-returns-2
 returns-2 c = rw (ne-eqb (c .before .args .n % 2) 1 (c .if1 .left))
 

@@ -6,32 +6,22 @@ use Rattle.codes.specs.Answers.{writtenAs}
 use borrow.Author.Needs.{needs}
 use Rattle.encoder.proofs.code_of.Statement.{statement}
 use Rattle.encoder.proofs.code_of.Tie as tie
-use Rattle.encoder.proofs.code_of.Reads as reads
-use Rattle.encoder.proofs.code_of.Lts as lts
-use Rattle.encoder.proofs.raised_of.Reads as raised-of-reads
-use Rattle.encoder.proofs.word_at.Reads as word-at-reads
 
--- src/writing.rt:80:9
 raised-of-requires : tie.Need-raised-of-requires
 raised-of-requires c κs = search needs
 
--- src/writing.rt:82:9
 returns : tie.Need-returns
 returns c = sym (ap writtenAs (none-out (c .before .before .args .feet) (c .before .before .fits .feet) (c .before .raised-of .ensures) (c .if1 .taken)))
 
--- src/writing.rt:85:9
 returns-2 : tie.Need-returns-2
 returns-2 c = sym (ap writtenAs (none-between (c .before .before .before .args .feet) (c .before .before .before .fits .feet) (c .before .before .raised-of .ensures) (c .if2 .taken)))
 
--- src/writing.rt:87:27
 cast-word-at : tie.Need-cast-word-at
 cast-word-at c = let l = steps-found (c .before .before .before .args .feet) (c .before .before .before .fits .feet) (c .before .before .raised-of .ensures) (c .before .if1 .left) in record { fits = omega (arith, l .1) }
 
--- src/writing.rt:87:19
 word-at-requires : tie.Need-word-at-requires
 word-at-requires c κs = steps-found (c .before .before .before .args .feet) (c .before .before .before .fits .feet) (c .before .before .raised-of .ensures) (c .before .if1 .left)
 
--- src/writing.rt:77:1
 returns-3 : tie.Need-returns-3
 returns-3 c = ap Code (c .word-at .ensures) ∙ sym (ap writtenAs (has-code (c .before .before .before .before .args .feet) (c .before .before .before .before .fits .feet) (c .before .before .before .raised-of .ensures) (c .before .before .if1 .left) (c .before .if2 .left)))
 

@@ -3,70 +3,52 @@ use mathlib.Core.Path.{refl}
 use Rattle.encoder.proofs.WritingLaws.{gray-word}
 use Rattle.encoder.proofs.eight_of.Statement.{statement}
 use Rattle.encoder.proofs.eight_of.Tie as tie
-use Rattle.encoder.proofs.eight_of.Reads as reads
-use Rattle.encoder.proofs.eight_of.Lts as lts
 
--- src/lib.rt:41:16
 mul-high : tie.Need-mul-high
 mul-high c = omega arith
 
--- src/lib.rt:41:40
 mul-high-2 : tie.Need-mul-high-2
 mul-high-2 c = omega arith
 
--- src/lib.rt:41:16
 add-high : tie.Need-add-high
 add-high c = omega arith
 
--- src/lib.rt:42:13
 mul-a : tie.Need-mul-a
 mul-a c = omega arith
 
--- src/lib.rt:42:36
 mul-a-2 : tie.Need-mul-a-2
 mul-a-2 c = omega arith
 
--- src/lib.rt:42:13
 add-a : tie.Need-add-a
 add-a c = omega arith
 
--- src/lib.rt:42:59
 mul-a-3 : tie.Need-mul-a-3
 mul-a-3 c = omega arith
 
--- src/lib.rt:42:13
 add-a-2 : tie.Need-add-a-2
 add-a-2 c = omega arith
 
--- src/lib.rt:43:13
 mul-b : tie.Need-mul-b
 mul-b c = omega arith
 
--- src/lib.rt:43:35
 mul-b-2 : tie.Need-mul-b-2
 mul-b-2 c = omega arith
 
--- src/lib.rt:43:13
 add-b : tie.Need-add-b
 add-b c = omega arith
 
--- src/lib.rt:43:57
 mul-b-3 : tie.Need-mul-b-3
 mul-b-3 c = omega arith
 
--- src/lib.rt:43:13
 add-b-2 : tie.Need-add-b-2
 add-b-2 c = omega arith
 
--- src/lib.rt:44:13
 add-result : tie.Need-add-result
 add-result c = omega arith
 
--- src/lib.rt:44:5
 add-result-2 : tie.Need-add-result-2
 add-result-2 c = omega arith
 
--- src/lib.rt:37:1
 returns : tie.Need-returns
 returns c = gray-word (c .args .n) _ refl
 

@@ -7,34 +7,25 @@ use Rattle.codes.specs.Writing.{groupOf}
 use borrow.Author.Needs.{needs}
 use Rattle.encoder.proofs.three_of.Statement.{statement}
 use Rattle.encoder.proofs.three_of.Tie as tie
-use Rattle.encoder.proofs.three_of.Reads as reads
-use Rattle.encoder.proofs.three_of.Lts as lts
 
--- src/writing.rt:63:14
 add-result : tie.Need-add-result
 add-result c = search needs
 
--- src/writing.rt:65:14
 add-result-2 : tie.Need-add-result-2
 add-result-2 c = search needs
 
--- src/writing.rt:57:1
 returns : tie.Need-returns
 returns c = ap (λ (h : ℕ). wordOf three (groupOf h)) (sym (c .match .keys1))
 
--- src/writing.rt:57:1
 returns-2 : tie.Need-returns-2
 returns-2 c = ap (λ (h : ℕ). wordOf three (groupOf h)) (sym (c .match .keys2))
 
--- src/writing.rt:57:1
 returns-3 : tie.Need-returns-3
 returns-3 c = ap (λ (h : ℕ). wordOf three (groupOf h)) (sym (c .match .keys3))
 
--- src/writing.rt:57:1
 returns-4 : tie.Need-returns-4
 returns-4 c = ap (λ (h : ℕ). wordOf three (groupOf h)) (sym (c .match .keys4))
 
--- src/writing.rt:57:1
 returns-5 : tie.Need-returns-5
 returns-5 c =
     let other = c .match .rest in

@@ -5,20 +5,13 @@ use Rattle.exports.specs.Numbers.{altitudeNumber}
 use borrow.Author.Needs.{needs}
 use Rattle.exports.proofs.altitude_number.Statement.{statement}
 use Rattle.exports.proofs.altitude_number.Tie as tie
-use Rattle.exports.proofs.altitude_number.Reads as reads
-use Rattle.exports.proofs.altitude_number.Lts as lts
-use Rattle.altitudes.proofs.altitude.Reads as altitude-reads
-use Rattle.exports.proofs.of_altitude.Reads as of-altitude-reads
 
--- src/numbers.rt:60:17
 altitude-requires : tie.Need-altitude-requires
 altitude-requires c κs = search needs
 
--- src/numbers.rt:60:5
 of-altitude-requires : tie.Need-of-altitude-requires
 of-altitude-requires c κs = search needs
 
--- src/numbers.rt:56:1
 returns : tie.Need-returns
 returns c = toZ-ofZ w32 (c .of-altitude .result) (search needs) ∙ c .of-altitude .ensures ∙ ap altitudeNumber (c .before .altitude .ensures)
 

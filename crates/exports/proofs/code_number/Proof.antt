@@ -8,36 +8,25 @@ use Rattle.exports.specs.Numbers.{codeNumber}
 use borrow.Author.Needs.{needs}
 use Rattle.exports.proofs.code_number.Statement.{statement}
 use Rattle.exports.proofs.code_number.Tie as tie
-use Rattle.exports.proofs.code_number.Reads as reads
-use Rattle.exports.proofs.code_number.Lts as lts
-use Rattle.exports.proofs.signed.Reads as signed-reads
-use Rattle.encoder.proofs.code_of.Reads as code-of-reads
 
--- src/numbers.rt:88:9
 code-of-requires : tie.Need-code-of-requires
 code-of-requires c κs = search needs
 
--- src/numbers.rt:90:23
 enum-known-x : tie.Need-enum-known-x
 enum-known-x c = search needs
 
--- src/numbers.rt:90:39
 cast-signed : tie.Need-cast-signed
 cast-signed c = search needs
 
--- src/numbers.rt:90:32
 signed-requires : tie.Need-signed-requires
 signed-requires c κs = search needs
 
--- src/numbers.rt:91:28
 enum-told : tie.Need-enum-told
 enum-told c = search needs
 
--- src/numbers.rt:84:1
 returns : tie.Need-returns
 returns c = toZ-ofZ w32 (c .signed .result) (search needs) ∙ c .signed .ensures ∙ ap codeNumber (sym (c .before .before .x .given .1) ∙ c .before .before .before .before .code-of .ensures) ∙ ap (λ (z : ℤ). codeNumber (writtenAs (codeOf z))) (toZ-ofZ w32 (c .before .before .before .before .before .args .feet) (c .before .before .before .before .before .fits .feet))
 
--- src/numbers.rt:84:1
 returns-2 : tie.Need-returns-2
 returns-2 c = ap codeNumber (sym (c .enum-told .given .1) ∙ c .before .before .code-of .ensures) ∙ ap (λ (z : ℤ). codeNumber (writtenAs (codeOf z))) (toZ-ofZ w32 (c .before .before .before .args .feet) (c .before .before .before .fits .feet))
 

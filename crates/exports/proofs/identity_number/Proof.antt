@@ -5,20 +5,13 @@ use Rattle.exports.specs.Numbers.{identityNumber}
 use borrow.Author.Needs.{needs}
 use Rattle.exports.proofs.identity_number.Statement.{statement}
 use Rattle.exports.proofs.identity_number.Tie as tie
-use Rattle.exports.proofs.identity_number.Reads as reads
-use Rattle.exports.proofs.identity_number.Lts as lts
-use Rattle.codes.proofs.identity.Reads as identity-reads
-use Rattle.exports.proofs.of_identity.Reads as of-identity-reads
 
--- src/numbers.rt:67:17
 identity-requires : tie.Need-identity-requires
 identity-requires c κs = search needs
 
--- src/numbers.rt:67:5
 of-identity-requires : tie.Need-of-identity-requires
 of-identity-requires c κs = search needs
 
--- src/numbers.rt:63:1
 returns : tie.Need-returns
 returns c = toZ-ofZ w32 (c .of-identity .result) (search needs) ∙ c .of-identity .ensures ∙ ap identityNumber (c .before .identity .ensures)
 

@@ -5,30 +5,24 @@ use Rattle.exports.specs.Numbers.{altitudeNumber}
 use borrow.Author.Needs.{needs}
 use Rattle.exports.proofs.of_altitude.Statement.{statement}
 use Rattle.exports.proofs.of_altitude.Tie as tie
-use Rattle.exports.proofs.of_altitude.Reads as reads
-use Rattle.exports.proofs.of_altitude.Lts as lts
 
--- src/numbers.rt:40:32
 enum-known-x : tie.Need-enum-known-x
 enum-known-x c = search needs
 
--- src/numbers.rt:41:37
 enum-told : tie.Need-enum-told
 enum-told c = search needs
 
--- src/numbers.rt:42:41
 enum-told-2 : tie.Need-enum-told-2
 enum-told-2 c = search needs
 
--- src/numbers.rt:36:1
 returns : tie.Need-returns
-returns c = toZ-ofZ w32 (c .before .x .given .0 .0) (search needs) ∙ sym (ap altitudeNumber (c .before .x .given .1))
+returns c =
+    let x = c .before .x in
+    toZ-ofZ w32 (x .given .0 .0) (search needs) ∙ sym (ap altitudeNumber (x .given .1))
 
--- src/numbers.rt:36:1
 returns-2 : tie.Need-returns-2
 returns-2 c = sym (ap altitudeNumber (c .enum-told .given .1))
 
--- src/numbers.rt:36:1
 returns-3 : tie.Need-returns-3
 returns-3 c = sym (ap altitudeNumber (c .enum-told2 .given .1))
 

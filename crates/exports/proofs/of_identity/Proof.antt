@@ -6,32 +6,22 @@ use lib.IntN.{pos}
 use borrow.Author.Needs.{needs}
 use Rattle.exports.proofs.of_identity.Statement.{statement}
 use Rattle.exports.proofs.of_identity.Tie as tie
-use Rattle.exports.proofs.of_identity.Reads as reads
-use Rattle.exports.proofs.of_identity.Lts as lts
-use Rattle.exports.proofs.four_digits.Reads as four-digits-reads
-use Rattle.exports.proofs.signed.Reads as signed-reads
 
--- src/numbers.rt:51:26
 enum-known-x : tie.Need-enum-known-x
 enum-known-x c = search needs
 
--- src/numbers.rt:51:49
 four-digits-requires : tie.Need-four-digits-requires
 four-digits-requires c κs = search needs
 
--- src/numbers.rt:51:42
 signed-requires : tie.Need-signed-requires
 signed-requires c κs = search needs
 
--- src/numbers.rt:52:27
 enum-told : tie.Need-enum-told
 enum-told c = search needs
 
--- src/numbers.rt:47:1
 returns : tie.Need-returns
 returns c = toZ-ofZ w32 (c .signed .result) (search needs) ∙ c .signed .ensures ∙ ap pos (c .before .four-digits .ensures) ∙ sym (ap identityNumber (c .before .before .before .x .given .1))
 
--- src/numbers.rt:47:1
 returns-2 : tie.Need-returns-2
 returns-2 c = sym (ap identityNumber (c .enum-told .given .1))
 

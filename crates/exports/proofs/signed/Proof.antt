@@ -3,14 +3,10 @@ use mir.ValLaws.{toZ-pos}
 use borrow.Author.Needs.{needs}
 use Rattle.exports.proofs.signed.Statement.{statement}
 use Rattle.exports.proofs.signed.Tie as tie
-use Rattle.exports.proofs.signed.Reads as reads
-use Rattle.exports.proofs.signed.Lts as lts
 
--- src/numbers.rt:25:5
 cast-result : tie.Need-cast-result
 cast-result c = search needs
 
--- src/numbers.rt:21:1
 returns : tie.Need-returns
 returns c = toZ-pos w32 (c .args .n) (c .pre)
 
