@@ -13,7 +13,7 @@ use Rattle.rules.specs.Samples.{odd}
 use borrow.Author.Tests.{eqb-true, eqb-false, eq-eqb, ne-eqb}
 use Rattle.codes.specs.Pulses.{A1, A2, A4, B1, B2, B4, D1, D2, D4, digit, digitsAt, clear, anyClear}
 use Rattle.codes.specs.Gray.{withDigit}
-use Rattle.codes.specs.Altitude.{Altitude, feet, unsure, none, eleven, eight, fiveHundreds, hundreds, group, turned, stepsBy, steps, feetAt, hasNone, altitude}
+use Rattle.codes.specs.Altitude.{feet, unsure, none, eleven, eight, fiveHundreds, hundreds, group, turned, stepsBy, steps, feetAt, hasNone, altitude}
 use Rattle.altitudes.proofs.Feet.{below-lowest, feet-fit}
 use Rattle.codes.proofs.GrayLaws.{gray-below}
 
@@ -21,12 +21,12 @@ pub five-hundreds-below : (code : ℕ) → fiveHundreds code < 256
 unfolding fiveHundreds
 five-hundreds-below code = gray-below (digitsAt eight code) 0 1 (lit< tt)
 
--- eight Gray digits, one after the other
-pub eight-digits : (code : ℕ) {n₁ n₂ n₃ n₄ n₅ n₆ n₇ n₈ : ℕ} → n₁ ≡ withDigit 0 (digit code D2) → n₂ ≡ withDigit n₁ (digit code D4) → n₃ ≡ withDigit n₂ (digit code A1)
-    → n₄ ≡ withDigit n₃ (digit code A2) → n₅ ≡ withDigit n₄ (digit code A4) → n₆ ≡ withDigit n₅ (digit code B1) → n₇ ≡ withDigit n₆ (digit code B2)
-    → n₈ ≡ withDigit n₇ (digit code B4) → n₈ ≡ fiveHundreds code
+-- eight Gray digits, two at a time
+pub eight-digits : (code : ℕ) {n₂ n₄ n₆ n₈ : ℕ} → n₂ ≡ withDigit (withDigit 0 (digit code D2)) (digit code D4)
+    → n₄ ≡ withDigit (withDigit n₂ (digit code A1)) (digit code A2) → n₆ ≡ withDigit (withDigit n₄ (digit code A4)) (digit code B1)
+    → n₈ ≡ withDigit (withDigit n₆ (digit code B2)) (digit code B4) → n₈ ≡ fiveHundreds code
 unfolding fiveHundreds
-eight-digits code e₁ e₂ e₃ e₄ e₅ e₆ e₇ e₈ = cc
+eight-digits code e₂ e₄ e₆ e₈ = cc
 
 -- another group
 pub no-group : (g : ℕ) → (g ≡ 1 → ⊥) → (g ≡ 3 → ⊥) → (g ≡ 2 → ⊥) → (g ≡ 6 → ⊥) → (g ≡ 4 → ⊥) → 0 ≡ hundreds g

@@ -1,7 +1,7 @@
 -- What a reply says, by its mode.
 use Prim.Native.Nat.{ℕ}
 use mathlib.Core.Path.{_≡_}
-use borrow.Author.Tests.{eq-eqb, ne-eqb}
+use borrow.Author.Tests.{ne-eqb}
 use Rattle.codes.specs.Altitude.{altitude}
 use Rattle.codes.specs.Identity.{identity}
 use Rattle.codes.specs.Meaning.{altitudeIs, identityIs, noMode, meaning}

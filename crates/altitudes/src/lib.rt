@@ -23,26 +23,23 @@ fn is_unsure(confidence: u16) -> bool
     high | (a | (b | c))
 }
 
-// The binary digits n, with the one behind them that a Gray digit stands for.
-fn with_digit(n: u16, digit: u16) -> u16
-    requires { ⌜ (n < 128) × (digit < 2) ⌝ }
-    ensures { λ r. ⌜ r ≡ withDigit n digit ⌝ }
+// The binary digits n, with the two behind them that two Gray digits stand for.
+fn with_two(n: u16, first: u16, second: u16) -> u16
+    requires { ⌜ (n < 64) × (first < 2) × (second < 2) ⌝ }
+    ensures { λ r. ⌜ r ≡ withDigit (withDigit n first) second ⌝ }
 {
-    2 * n + (n + digit) % 2
+    let m = 2 * n + (n + first) % 2;
+    2 * m + (m + second) % 2
 }
 
 // How many whole 500 ft a code counts, in Gray code.
 fn five_hundreds(code: u16) -> u16
     ensures { λ r. ⌜ r ≡ fiveHundreds code ⌝ }
 {
-    let n1 = with_digit(0, code / D2 % 2);
-    let n2 = with_digit(n1, code / D4 % 2);
-    let n3 = with_digit(n2, code / A1 % 2);
-    let n4 = with_digit(n3, code / A2 % 2);
-    let n5 = with_digit(n4, code / A4 % 2);
-    let n6 = with_digit(n5, code / B1 % 2);
-    let n7 = with_digit(n6, code / B2 % 2);
-    with_digit(n7, code / B4 % 2)
+    let n2 = with_two(0, code / D2 % 2, code / D4 % 2);
+    let n4 = with_two(n2, code / A1 % 2, code / A2 % 2);
+    let n6 = with_two(n4, code / A4 % 2, code / B1 % 2);
+    with_two(n6, code / B2 % 2, code / B4 % 2)
 }
 
 // How many 100 ft the group C1 C2 C4 of a code counts: 1 to 5, or 0 for another group.

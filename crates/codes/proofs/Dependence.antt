@@ -4,7 +4,7 @@ use native.Mathlib.Omega.{arith}
 use mathlib.Core.Logic.{_↔_}
 use mathlib.Core.Path.{_≡_, refl, sym, _∙_}
 use mathlib.Core.Bool.{Bool, true, false, cond, _||_}
-use mathlib.Core.List.{List, [], _∷_}
+use mathlib.Core.List.{List, _∷_}
 use lib.Dec.{eqb}
 use lib.IntN.{ℤ}
 use lib.ListN.{getD, take, drop}
@@ -14,7 +14,7 @@ use Rattle.rules.proofs.Truth.{impossible}
 use Rattle.codes.specs.Pulses.{D1, digitsAt, anyClear}
 use Rattle.codes.specs.Gray.{gray}
 use Rattle.codes.specs.Altitude as C
-use Rattle.codes.specs.Altitude.{Altitude, eleven, fiveHundreds, group, hundreds, stepsBy, steps, feetAt, lowest, hasNone, altitude}
+use Rattle.codes.specs.Altitude.{Altitude, eleven, fiveHundreds, hundreds, stepsBy, steps, feetAt, lowest, hasNone, altitude}
 use Rattle.codes.specs.Identity as A
 use Rattle.codes.specs.Identity.{Identity, twelve, identity}
 use Rattle.codes.specs.Depends.{UnsureExactly, Depends}

@@ -1,5 +1,5 @@
 -- Gray code: how large its numbers are, and that reading and writing undo each other, for any number of digits.
-use Prim.Native.Nat.{ℕ, zero, suc, _+_, _*_, _/_, _%_, _^_, _≤_, _<_}
+use Prim.Native.Nat.{ℕ, zero, suc, _+_, _*_, _/_, _%_, _^_, _<_}
 use native.Mathlib.Omega.{arith}
 use native.Mathlib.Nat.{mul-assoc, pow-suc, pow-succ', div-one, div-div-eq-div-mul}
 use mathlib.Core.Path.{_≡_, refl, sym, ap, _∙_}
@@ -7,7 +7,7 @@ use mathlib.Core.List.{List, [], _∷_}
 use lib.Bits.{differ, bitXor, xor-step, xor-shr}
 use lib.ListN.{length}
 use Rattle.rules.specs.Lists.{All}
-use Rattle.codes.specs.Gray.{withDigit, grayFrom, gray, grayOf}
+use Rattle.codes.specs.Gray.{withDigit, grayFrom, grayOf}
 
 -- k digits behind a number below m make one below m 2^k
 pub gray-below : (gs : List ℕ) (n m : ℕ) → n < m → grayFrom n gs < m * 2 ^ length gs

@@ -1,9 +1,9 @@
 -- The identity of a code, by the tests that the code makes in their order.
 use Prim.Native.Nat.{ℕ}
-use mathlib.Core.Path.{_≡_, sym, ap, _∙_}
+use mathlib.Core.Path.{_≡_}
 use mathlib.Core.Bool.{true, false}
 use Rattle.codes.specs.Pulses.{C1, A1, C2, A2, C4, A4, B1, D1, B2, D2, B4, D4, weighted, anyClear}
-use Rattle.codes.specs.Identity.{Identity, digits, unsure, twelve, identity}
+use Rattle.codes.specs.Identity.{unsure, twelve, identity}
 use Rattle.codes.specs.declared.Squawk.the-variants.{Digits}
 use Rattle.codes.specs.Answers.{squawkAs}
 

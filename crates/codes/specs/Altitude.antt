@@ -9,6 +9,7 @@ use Rattle.rules.specs.Samples.{odd, bit}
 use Rattle.codes.specs.Pulses.{C1, A1, C2, A2, C4, A4, B1, D1, B2, D2, B4, D4, digitsAt, anyClear, weighted}
 use Rattle.codes.specs.Gray.{gray}
 
+-- the answer: feet; unsure; no altitude
 pub data Altitude : Type 0 where
   feet : ℤ → Altitude
   unsure : Altitude

@@ -5,6 +5,7 @@ use lib.Dec.{eqb}
 use Rattle.codes.specs.Altitude.{Altitude, altitude}
 use Rattle.codes.specs.Identity.{Identity, identity}
 
+-- the answer: an altitude; an identity; the number is no mode
 pub data Meaning : Type 0 where
   altitudeIs : Altitude → Meaning
   identityIs : Identity → Meaning

@@ -1,5 +1,5 @@
 -- The code of an altitude: only the eleven pulses of an altitude can be set.
-use Prim.Native.Nat.{ℕ, zero, suc, _+_, _-_, _/_, _%_, _^_}
+use Prim.Native.Nat.{ℕ, _+_, _-_, _/_, _%_}
 use mathlib.Core.Bool.{Bool, _&&_, cond}
 use mathlib.Core.List.{List, [], _∷_, _++_}
 use lib.Dec.{eqb}
@@ -10,6 +10,7 @@ use Rattle.codes.specs.Pulses.{wordOf}
 use Rattle.codes.specs.Gray.{grayOf}
 use Rattle.codes.specs.Altitude.{eleven, groups, turned, lowest}
 
+-- the answer: a code word; none
 pub data Coded : Type 0 where
   code : ℕ → Coded
   noCode : Coded
@@ -43,6 +44,6 @@ unfoldable pub codeOf : ℤ → Coded
 unfolding written
 codeOf z = cond (hasCode z) (code (written (stepsTo z))) noCode
 
--- feet above -1,300 ft, where a number of feet is in the range of altitudes; 0 where it is not
+-- For the code: feet above -1,300 ft, where a number of feet is in the range of altitudes; 0 where it is not.
 unfoldable pub raised : ℤ → ℕ
 raised z = cond (leZ lowest z && leZ z highest) (natAbs (z +ℤ pos 1300)) 0

@@ -1,7 +1,7 @@
 -- A word of eleven pulses gives its digits back, by a test that is computed for each of the 2,048 lists of eleven digits.
 use Prim.Native.Nat.{ℕ, zero, suc, _<_}
 use native.Mathlib.Omega.{arith}
-use mathlib.Core.Path.{_≡_, refl, sym, ap, _∙_}
+use mathlib.Core.Path.{_≡_, refl, sym}
 use mathlib.Core.Bool.{Bool, true, false, _&&_}
 use mathlib.Core.List.{List, [], _∷_}
 use lib.Dec.{eqb}
@@ -9,7 +9,7 @@ use lib.ListN.{length}
 use borrow.Author.Tests.{eqb-true}
 use Rattle.rules.specs.Lists.{All}
 use Rattle.rules.proofs.Truth.{impossible, and-left, and-right}
-use Rattle.codes.specs.Pulses.{D1, digit, digitsAt, clear, wordOf}
+use Rattle.codes.specs.Pulses.{D1, digitsAt, clear, wordOf}
 use Rattle.codes.specs.Altitude.{eleven}
 
 -- ---- a test that all lists of k digits pass

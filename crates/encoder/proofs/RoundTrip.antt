@@ -7,29 +7,27 @@ use mathlib.Core.Bool.{Bool, true, false, not, cond, _&&_, _||_}
 use mathlib.Core.List.{List, [], _∷_, _++_}
 use lib.Dec.{leb, ltb, eqb}
 use lib.IntN.{ℤ, pos, negsuc, natAbs, _+ℤ_}
-use lib.ListN.{length, getD, take}
-use lib.Signed.{ltZ}
+use lib.ListN.{getD, take}
 use borrow.Author.Tests.{ltb-true, ltb-false, leb-true, eqb-true, eqb-false, lt-ltb, le-ltb, le-leb, eq-eqb, ne-eqb}
-use Rattle.rules.specs.Lists.{All}
 use Rattle.rules.specs.Samples.{odd}
 use Rattle.rules.proofs.Truth.{or-left, or-right, or-second}
-use Rattle.codes.specs.Pulses.{C1, C2, C4, D1, digit, digitsAt, clear, anyClear, weighted, wordOf}
+use Rattle.codes.specs.Pulses.{C1, C2, C4, D1, digit, digitsAt, clear, anyClear, wordOf}
 use Rattle.codes.specs.Gray.{gray, grayFrom, grayOf}
-use Rattle.codes.specs.Altitude.{Altitude, feet, unsure, none, eight, three as three-pulses, eleven, fiveHundreds, group, groups, hundreds, turned, stepsBy, steps, feetAt, lowest, hasNone, altitude}
+use Rattle.codes.specs.Altitude.{feet, unsure, none, eight, three as three-pulses, eleven, fiveHundreds, group, groups, hundreds, turned, stepsBy, steps, feetAt, hasNone, altitude}
 use Rattle.codes.specs.Writing.{code, noCode, threeDigits, groupOf, written, codeOf, raised}
 use Rattle.codes.proofs.GrayLaws.{read-written, written-read}
 use Rattle.altitudes.proofs.Feet.{feet-low, feet-high}
 use Rattle.altitudes.proofs.AltitudeLaws.{five-hundreds-below, none-is, is-feet}
-use Rattle.encoder.specs.RoundTrip.{level, elevenOf, CodeOf, differing, RoundTrip}
+use Rattle.encoder.specs.RoundTrip.{altitudeAt, elevenOf, CodeOf, differing, RoundTrip}
 use Rattle.encoder.proofs.WritingLaws.{sum-low, codeAt, code-is, raised-most, turned-least}
 use Rattle.encoder.proofs.DigitLaws.{passes, passed, Digits, digits-back, d1-clear}
 
--- ---- levels, steps and feet above -1,300 ft
+-- ---- altitudes, steps and feet above -1,300 ft
 
-level-feet : (k : ℕ) → level k ≡ feetAt (k + 3)
-level-feet k = go (ltb k 10) refl
+altitude-feet : (k : ℕ) → altitudeAt k ≡ feetAt (k + 3)
+altitude-feet k = go (ltb k 10) refl
   where
-    go : (b : Bool) → ltb k 10 ≡ b → level k ≡ feetAt (k + 3)
+    go : (b : Bool) → ltb k 10 ≡ b → altitudeAt k ≡ feetAt (k + 3)
     go true e =
         let l = ltb-true k 10 e in
         let same : 1000 - suc (100 * k) ≡ 1299 - 100 * (k + 3) = omega (arith, l) in
@@ -300,8 +298,8 @@ module _ (w : ℕ) (e : hasNone w ≡ false) where
 
 -- ---- the theorem
 
-wrote-level : (k : ℕ) → k ≤ 1277 → codeOf (level k) ≡ code (written (k + 3))
-wrote-level k l = ap codeOf (level-feet k) ∙ code-of-feet (k + 3) (omega arith) (omega arith)
+wrote-altitude : (k : ℕ) → k ≤ 1277 → codeOf (altitudeAt k) ≡ code (written (k + 3))
+wrote-altitude k l = ap codeOf (altitude-feet k) ∙ code-of-feet (k + 3) (omega arith) (omega arith)
 
 back-law : (k : ℕ) → k ≤ 1277 → (w : ℕ) × CodeOf k w
 back-law k l =
@@ -309,9 +307,9 @@ back-law k l =
     let q : k + 3 ≤ 1280 = omega arith in (
       written (k + 3),
       record {
-        wrote = wrote-level k l;
+        wrote = wrote-altitude k l;
         others-clear = eleven-written (k + 3) p q;
-        reads = λ confidence u. read-feet (k + 3) p q confidence u ∙ ap feet (sym (level-feet k));
+        reads = λ confidence u. read-feet (k + 3) p q confidence u ∙ ap feet (sym (altitude-feet k));
       },
     )
 
@@ -320,20 +318,20 @@ once-law w confidence z e =
     let r = reads-feet w confidence z e in
     ap codeOf (r .is) ∙ code-of-feet (steps w) (least w (r .has)) (most w (r .has)) ∙ ap code (rewritten w (r .has))
 
--- a number in the range whose feet above -1,300 ft are a multiple of 100 is a level
-level-of : (z : ℤ) → (raised z ≡ 0 → ⊥) → raised z % 100 ≡ 0 → level (raised z / 100 - 3) ≡ z
+-- a number in the range whose feet above -1,300 ft are a multiple of 100 is an altitude
+altitude-of : (z : ℤ) → (raised z ≡ 0 → ⊥) → raised z % 100 ≡ 0 → altitudeAt (raised z / 100 - 3) ≡ z
 unfolding raised
-level-of (pos a) = go (leb a 126700)
+altitude-of (pos a) = go (leb a 126700)
   where
-    go : (b : Bool) → (cond b (a + 1300) 0 ≡ 0 → ⊥) → cond b (a + 1300) 0 % 100 ≡ 0 → level (cond b (a + 1300) 0 / 100 - 3) ≡ pos a
+    go : (b : Bool) → (cond b (a + 1300) 0 ≡ 0 → ⊥) → cond b (a + 1300) 0 % 100 ≡ 0 → altitudeAt (cond b (a + 1300) 0 / 100 - 3) ≡ pos a
     go true k e =
         let same : 100 * ((a + 1300) / 100 - 3) - 1000 ≡ a = omega arith in
         rw (le-ltb (100 * ((a + 1300) / 100 - 3)) 1000 (omega arith)) (ap pos same)
     go false k e = absurd (k refl)
-level-of (negsuc a) = go (leb a 999) refl
+altitude-of (negsuc a) = go (leb a 999) refl
   where
     go : (b : Bool) → leb a 999 ≡ b → (cond (b && true) (natAbs (negsuc a +ℤ pos 1300)) 0 ≡ 0 → ⊥) → cond (b && true) (natAbs (negsuc a +ℤ pos 1300)) 0 % 100 ≡ 0
-        → level (cond (b && true) (natAbs (negsuc a +ℤ pos 1300)) 0 / 100 - 3) ≡ negsuc a
+        → altitudeAt (cond (b && true) (natAbs (negsuc a +ℤ pos 1300)) 0 / 100 - 3) ≡ negsuc a
     go true p k e =
         let l = leb-true a 999 p in
         let whole : (1299 - a) % 100 ≡ 0 = rw (sum-low a l) at e in
@@ -341,7 +339,7 @@ level-of (negsuc a) = go (leb a 999) refl
         rw (sum-low a l, lt-ltb (100 * ((1299 - a) / 100 - 3)) 1000 (omega (arith, l, whole))) (ap negsuc same)
     go false p k e = absurd (k refl)
 
-no-other-law : (z : ℤ) → ((k : ℕ) → k ≤ 1277 → z ≡ level k → ⊥) → codeOf z ≡ noCode
+no-other-law : (z : ℤ) → ((k : ℕ) → k ≤ 1277 → z ≡ altitudeAt k → ⊥) → codeOf z ≡ noCode
 no-other-law z f = code-is z ∙ go (eqb (raised z) 0) (eqb (raised z % 100) 0) refl refl
   where
     go : (a b : Bool) → eqb (raised z) 0 ≡ a → eqb (raised z % 100) 0 ≡ b → codeAt (raised z) ≡ noCode
@@ -349,7 +347,7 @@ no-other-law z f = code-is z ∙ go (eqb (raised z) 0) (eqb (raised z % 100) 0) 
     go false false p q = rw (q, lt-ltb 0 (raised z) (omega (arith, eqb-false (raised z) 0 p)))
     go false true p q =
         absurd
-        (f (raised z / 100 - 3) (omega (arith, raised-most z)) (sym (level-of z (eqb-false (raised z) 0 p) (eqb-true (raised z % 100) 0 q))))
+        (f (raised z / 100 - 3) (omega (arith, raised-most z)) (sym (altitude-of z (eqb-false (raised z) 0 p) (eqb-true (raised z % 100) 0 q))))
 
 -- ---- neighbours, by a test of each list of eleven digits
 
@@ -381,10 +379,10 @@ module _ (s : ℕ) (l : 3 ≤ s) (m : s < 1280) where
 codes-same : {v w : ℕ} → code v ≡ code w → v ≡ w
 codes-same e = cc
 
-neighbours-law : (k v w : ℕ) → k < 1277 → codeOf (level k) ≡ code v → codeOf (level (k + 1)) ≡ code w → differing v w ≡ 1
+neighbours-law : (k v w : ℕ) → k < 1277 → codeOf (altitudeAt k) ≡ code v → codeOf (altitudeAt (k + 1)) ≡ code w → differing v w ≡ 1
 neighbours-law k v w l p q =
-    let same-v : v ≡ written (k + 3) = codes-same (sym p ∙ wrote-level k (omega arith)) in
-    let same-w : w ≡ written (k + 1 + 3) = codes-same (sym q ∙ wrote-level (k + 1) (omega arith)) in
+    let same-v : v ≡ written (k + 3) = codes-same (sym p ∙ wrote-altitude k (omega arith)) in
+    let same-w : w ≡ written (k + 1 + 3) = codes-same (sym q ∙ wrote-altitude (k + 1) (omega arith)) in
     let next : k + 1 + 3 ≡ k + 3 + 1 = omega arith in
     (λ i. differing (same-v i) (same-w i)) ∙ ap (λ (t : ℕ). differing (written (k + 3)) (written t)) next ∙ apart (k + 3) (omega arith) (omega arith)
 

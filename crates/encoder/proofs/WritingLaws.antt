@@ -2,7 +2,7 @@
 use Prim.Native.Nat.{ℕ, suc, _+_, _-_, _*_, _/_, _%_, _^_, _≤_}
 use native.Mathlib.Omega.{arith}
 use native.Mathlib.Nat.{lt-of-le-of-lt, div-one}
-use mathlib.Core.Path.{_≡_, refl, sym, ap, _∙_, subst}
+use mathlib.Core.Path.{_≡_, refl, sym, ap, _∙_}
 use mathlib.Core.Bool.{Bool, true, false, cond, _&&_}
 use mathlib.Core.List.{[], _∷_, _++_}
 use lib.Bits.{bitXor}
@@ -10,7 +10,7 @@ use lib.Dec.{T, leb, ltb, eqb, lit<}
 use lib.ListN.{getD}
 use lib.IntN.{ℤ, pos, negsuc, natAbs, _+ℤ_}
 use Rattle.rules.specs.Samples.{odd}
-use lib.Signed.{ltZ, leZ, mag, nonNeg}
+use lib.Signed.{ltZ, nonNeg}
 use mir.Syntax.{w32}
 use mir.Val.{Fits, SFits, toZ, ofZ}
 use mir.ValLaws.{toZ-ofZ}
@@ -19,7 +19,7 @@ use Rattle.codes.specs.Pulses.{wordOf}
 use Rattle.codes.proofs.GrayLaws.{gray-digit}
 use Rattle.codes.specs.Gray.{grayOf}
 use Rattle.codes.specs.Altitude.{eight, three, eleven, groups, turned, lowest}
-use Rattle.codes.specs.Writing.{Coded, code, noCode, highest, hasCode, groupOf, stepsTo, written, codeOf, raised}
+use Rattle.codes.specs.Writing.{Coded, code, noCode, highest, groupOf, stepsTo, written, codeOf, raised}
 
 -- ---- feet above -1,300 ft
 

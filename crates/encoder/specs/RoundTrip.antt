@@ -10,18 +10,18 @@ use Rattle.codes.specs.Altitude.{eleven, feet, lowest, altitude}
 use Rattle.codes.specs.Writing.{code, noCode, codeOf}
 
 -- the multiples of 100 ft from -1,000 ft on; the last, 126,700 ft, has the number 1,277
-abbrev pub level : ℕ → ℤ
-level k = lowest +ℤ pos (100 * k)
+abbrev pub altitudeAt : ℕ → ℤ
+altitudeAt k = lowest +ℤ pos (100 * k)
 
 -- a word with no other pulses than the eleven of an altitude
 abbrev pub elevenOf : ℕ → ℕ
 elevenOf w = wordOf eleven (digitsAt eleven w)
 
--- the code w of a level: other bits are 0, and where the eleven are sure it reads as that level
+-- w is the code of that altitude: other bits are 0, and where the eleven are sure it reads as the altitude
 pub record CodeOf (k w : ℕ) : Type 0 where
-  pub wrote : codeOf (level k) ≡ code w
+  pub wrote : codeOf (altitudeAt k) ≡ code w
   pub others-clear : elevenOf w ≡ w
-  pub reads : (confidence : ℕ) → anyClear eleven confidence ≡ false → altitude w confidence ≡ feet (level k)
+  pub reads : (confidence : ℕ) → anyClear eleven confidence ≡ false → altitude w confidence ≡ feet (altitudeAt k)
 
 -- in how many of the eleven pulses two words differ
 abbrev pub differing : ℕ → ℕ → ℕ
@@ -31,8 +31,8 @@ pub record RoundTrip : Type 0 where
   -- each multiple of 100 ft from -1,000 to 126,700 comes back through the writer and the reader
   pub back : (k : ℕ) → k ≤ 1277 → (w : ℕ) × CodeOf k w
   -- any other number has no code
-  pub no-other : (z : ℤ) → ((k : ℕ) → k ≤ 1277 → z ≡ level k → ⊥) → codeOf z ≡ noCode
+  pub no-other : (z : ℤ) → ((k : ℕ) → k ≤ 1277 → z ≡ altitudeAt k → ⊥) → codeOf z ≡ noCode
   -- a code that reads as feet is the writer's for those feet in its eleven pulses: so no altitude has two codes
   pub once : (w confidence : ℕ) (z : ℤ) → altitude w confidence ≡ feet z → codeOf z ≡ code (elevenOf w)
   -- neighbours differ in one pulse alone, as Gray code wants it
-  pub neighbours : (k v w : ℕ) → k < 1277 → codeOf (level k) ≡ code v → codeOf (level (k + 1)) ≡ code w → differing v w ≡ 1
+  pub neighbours : (k v w : ℕ) → k < 1277 → codeOf (altitudeAt k) ≡ code v → codeOf (altitudeAt (k + 1)) ≡ code w → differing v w ≡ 1

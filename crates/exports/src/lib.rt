@@ -53,6 +53,7 @@ fn of_identity(x: Squawk) -> i32
     }
 }
 
+// The altitude of a code, as a number.
 #[no_mangle]
 pub extern "C" fn altitude_number(code: u16, confidence: u16) -> i32
     ensures { λ r. ⌜ r ≡ altitudeNumber (altitudeAs (altitude code confidence)) ⌝ }
@@ -60,6 +61,7 @@ pub extern "C" fn altitude_number(code: u16, confidence: u16) -> i32
     of_altitude(altitude(code, confidence))
 }
 
+// The identity of a code, as a number.
 #[no_mangle]
 pub extern "C" fn identity_number(code: u16, confidence: u16) -> i32
     ensures { λ r. ⌜ r ≡ identityNumber (squawkAs (identity code confidence)) ⌝ }

@@ -25,20 +25,32 @@ feet-at-requires c κs = search needs
 
 returns : tie.Need-returns
 returns c =
-    let a = c .before .before .before .before .before .before .args in
-    sym (ap altitudeAs (is-unsure (a .code) (a .confidence) (sym (c .before .before .before .before .before .is-unsure .ensures) ∙ c .if1 .taken)))
+    let unsure = c .before .before .before .before .before in
+    let start = unsure .before in
+    sym (ap altitudeAs (is-unsure (start .args .code) (start .args .confidence) (sym (unsure .is-unsure .ensures) ∙ c .if1 .taken)))
 
 returns-2 : tie.Need-returns-2
 returns-2 c =
-    let a = c .before .before .before .before .before .before .before .args in
-    sym (ap altitudeAs (is-none (a .code) (a .confidence) (sym (c .before .before .before .before .before .before .is-unsure .ensures) ∙ c .before .if1 .left) (sym (none-found (a .code) (c .before .before .before .before .before .hundreds-of .ensures) (c .before .before .before .before .steps-of .ensures) (c .before .before .before .is-clear .ensures)) ∙ c .if2 .taken)))
+    let d1 = c .before .before .before in
+    let steps = d1 .before in
+    let group = steps .before in
+    let unsure = group .before in
+    let a = unsure .before .args in
+    let sure = sym (unsure .is-unsure .ensures) ∙ c .before .if1 .left in
+    let none = sym (none-found (a .code) (group .hundreds-of .ensures) (steps .steps-of .ensures) (d1 .is-clear .ensures)) ∙ c .if2 .taken in
+    sym (ap altitudeAs (is-none (a .code) (a .confidence) sure none))
 
 returns-3 : tie.Need-returns-3
 returns-3 c =
-    let stepsof = c .before .before .before .before .steps-of in
-    let hundredsof = c .before .before .before .before .before .hundreds-of in
-    let a = c .before .before .before .before .before .before .before .args in
-    ap Feet (feet-found (a .code) (hundredsof .ensures) (stepsof .ensures) (c .before .before .feet-at .ensures)) ∙ sym (ap altitudeAs (is-feet (a .code) (a .confidence) (sym (c .before .before .before .before .before .before .is-unsure .ensures) ∙ c .before .if1 .left) (sym (none-found (a .code) (hundredsof .ensures) (stepsof .ensures) (c .before .before .before .is-clear .ensures)) ∙ c .if2 .left)))
+    let d1 = c .before .before .before in
+    let steps = d1 .before in
+    let group = steps .before in
+    let unsure = group .before in
+    let a = unsure .before .args in
+    let sure = sym (unsure .is-unsure .ensures) ∙ c .before .if1 .left in
+    let some = sym (none-found (a .code) (group .hundreds-of .ensures) (steps .steps-of .ensures) (d1 .is-clear .ensures)) ∙ c .if2 .left in
+    let found = feet-found (a .code) (group .hundreds-of .ensures) (steps .steps-of .ensures) (c .before .before .feet-at .ensures) in
+    ap Feet found ∙ sym (ap altitudeAs (is-feet (a .code) (a .confidence) sure some))
 
 pub altitude-spec : {M : Type 1} → statement M
 altitude-spec =

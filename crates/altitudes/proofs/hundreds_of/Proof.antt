@@ -1,4 +1,4 @@
-use mathlib.Core.Path.{refl, sym, ap, _∙_}
+use mathlib.Core.Path.{sym, ap, _∙_}
 use Rattle.codes.specs.Altitude.{hundreds}
 use Rattle.altitudes.proofs.AltitudeLaws.{no-group}
 use borrow.Author.Needs.{needs}

@@ -1,6 +1,6 @@
 use native.Mathlib.Omega.{arith}
 use Rattle.codes.specs.declared.Written.the-variants.{Code}
-use mathlib.Core.Path.{refl, sym, ap, _∙_}
+use mathlib.Core.Path.{sym, ap, _∙_}
 use Rattle.encoder.proofs.WritingLaws.{none-out, none-between, steps-found, has-code}
 use Rattle.codes.specs.Answers.{writtenAs}
 use borrow.Author.Needs.{needs}
