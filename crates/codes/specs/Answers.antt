@@ -1,4 +1,4 @@
--- What the code answers for each case.
+-- The code's enum for each case of an answer.
 use Rattle.codes.specs.declared.Meaning.{Meaning as Said}
 use Rattle.codes.specs.declared.Meaning.the-variants.{Altitude, Identity, NoMode}
 use Rattle.codes.specs.declared.PressureAltitude.{PressureAltitude}
