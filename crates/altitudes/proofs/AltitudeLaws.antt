@@ -1,17 +1,17 @@
 -- The altitude of a code, by the tests that the code makes in their order.
-use Prim.Native.Nat.{ℕ, _-_, _/_, _%_, _^_, _≤_, _<_}
+use Prim.Native.Nat.{ℕ, _-_, _≤_, _<_}
 use native.Mathlib.Omega.{arith}
-use mathlib.Core.Path.{_≡_, refl, sym, ap, _∙_}
-use mathlib.Core.Bool.{Bool, true, false, not, _||_, cond}
+use mathlib.Core.Path.{_≡_, sym, ap, _∙_}
+use mathlib.Core.Bool.{Bool, true, false, _||_, cond}
 use lib.Dec.{eqb, ltb, lit<, lit≤}
 use native.Mathlib.Nat.{lt-of-le-of-lt}
 use lib.IntN.{ℤ}
 use mir.Syntax.{w32}
 use mir.Val.{toZ, ofZ}
 use mir.ValLaws.{toZ-ofZ}
-use Rattle.rules.specs.Samples.{odd}
-use borrow.Author.Tests.{eqb-true, eqb-false, eq-eqb, ne-eqb}
-use Rattle.codes.specs.Pulses.{A1, A2, A4, B1, B2, B4, D1, D2, D4, digit, digitsAt, clear, anyClear}
+use Rattle.rules.specs.Samples.{odd, bit}
+use borrow.Author.Tests.{ne-eqb}
+use Rattle.codes.specs.Pulses.{A1, A2, A4, B1, B2, B4, D1, D2, D4, digit, digitsAt, anyClear}
 use Rattle.codes.specs.Gray.{withDigit}
 use Rattle.codes.specs.Altitude.{feet, unsure, none, eleven, eight, fiveHundreds, hundreds, group, turned, stepsBy, steps, feetAt, hasNone, altitude}
 use Rattle.altitudes.proofs.Feet.{below-lowest, feet-fit}
@@ -53,16 +53,9 @@ turned-most n h l = go (odd n)
 -- ---- the answer, by the tests
 
 -- no altitude, by the group, by D1 and by the steps
-pub none-is : (code : ℕ) → hasNone code ≡ (eqb (hundreds (group code)) 0 || (not (clear code D1) || ltb (steps code) 3))
+pub none-is : (code : ℕ) → hasNone code ≡ (eqb (hundreds (group code)) 0 || (bit D1 code || ltb (steps code) 3))
 unfolding hasNone
-none-is code = rw (below-lowest (steps code), set (code / 2 ^ D1))
-  where
-    set : (x : ℕ) → eqb (x % 2) 1 ≡ not (eqb (x % 2) 0)
-    set x = go (eqb (x % 2) 0) refl
-      where
-        go : (b : Bool) → eqb (x % 2) 0 ≡ b → eqb (x % 2) 1 ≡ not b
-        go true e = ne-eqb (x % 2) 1 (λ f. omega (arith, eqb-true (x % 2) 0 e))
-        go false e = eq-eqb (x % 2) 1 (omega (arith, eqb-false (x % 2) 0 e))
+none-is code = rw (below-lowest (steps code))
 
 module _ (code confidence : ℕ) where
   pub is-unsure : anyClear eleven confidence ≡ true → altitude code confidence ≡ unsure
@@ -90,8 +83,8 @@ module _ (code : ℕ) {h s : ℕ} (e : h ≡ hundreds (group code)) (f : s ≡ s
   unfolding steps
   found = f ∙ ap (stepsBy (fiveHundreds code)) e
 
-  pub none-found : {d : Bool} → d ≡ clear code D1 → (eqb h 0 || (not d || ltb s 3)) ≡ hasNone code
-  none-found g = (λ i. eqb (e i) 0 || (not (g i) || ltb (found i) 3)) ∙ sym (none-is code)
+  pub none-found : (eqb h 0 || (bit D1 code || ltb s 3)) ≡ hasNone code
+  none-found = (λ i. eqb (e i) 0 || (bit D1 code || ltb (found i) 3)) ∙ sym (none-is code)
 
   pub feet-found : {z : ℤ} → z ≡ feetAt s → toZ w32 (ofZ w32 z) ≡ feetAt (steps code)
   feet-found {z} g =

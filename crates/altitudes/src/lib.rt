@@ -16,11 +16,7 @@ use codes::pulses::*;
 fn is_unsure(confidence: u16) -> bool
     ensures { λ r. ⌜ r ≡ anyClear eleven confidence ⌝ }
 {
-    let high = is_clear(confidence, D2) | is_clear(confidence, D4);
-    let a = any_clear(confidence, A1, A2, A4);
-    let b = any_clear(confidence, B1, B2, B4);
-    let c = any_clear(confidence, C1, C2, C4);
-    high | (a | (b | c))
+    (confidence & ELEVEN) != ELEVEN
 }
 
 // The binary digits n, with the two behind them that two Gray digits stand for.
@@ -91,7 +87,7 @@ pub fn altitude(code: u16, confidence: u16) -> PressureAltitude
     let unsure = is_unsure(confidence);
     let h = hundreds_of(code);
     let s = steps_of(code, h);
-    let none = (h == 0) | (!is_clear(code, D1) | (s < 3));
+    let none = (h == 0) | ((code / D1 % 2 == 1) | (s < 3));
     let feet = feet_at(s);
     if unsure {
         return PressureAltitude::Unsure;

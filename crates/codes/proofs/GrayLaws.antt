@@ -15,7 +15,7 @@ gray-below [] n m h = omega arith
 gray-below (g ∷ gs) n m h = rw (pow-succ' 2 (length gs), ← mul-assoc m 2 (2 ^ length gs)) (gray-below gs (withDigit n g) (m * 2) (omega arith))
 
 -- one digit more is a half less
-half : (n k : ℕ) → n / 2 ^ suc k ≡ n / 2 ^ k / 2
+pub half : (n k : ℕ) → n / 2 ^ suc k ≡ n / 2 ^ k / 2
 half n k = ap (λ (d : ℕ). n / d) (pow-suc 2 k) ∙ sym (div-div-eq-div-mul n (2 ^ k) 2)
 
 again : (a : ℕ) → withDigit (a / 2) ((a + a / 2) % 2) ≡ a

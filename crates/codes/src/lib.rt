@@ -38,11 +38,7 @@ pub enum Written {
 fn is_unsure(confidence: u16) -> bool
     ensures { λ r. ⌜ r ≡ anyClear twelve confidence ⌝ }
 {
-    let a = any_clear(confidence, A4, A2, A1);
-    let b = any_clear(confidence, B4, B2, B1);
-    let c = any_clear(confidence, C4, C2, C1);
-    let d = any_clear(confidence, D4, D2, D1);
-    a | (b | (c | d))
+    (confidence & TWELVE) != TWELVE
 }
 
 // The identity that a code gives, by the confidence of its pulses.

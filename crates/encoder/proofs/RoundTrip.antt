@@ -3,24 +3,25 @@ use Prim.Native.Nat.{ℕ, zero, suc, _+_, _-_, _*_, _/_, _%_, _^_, _≤_, _<_}
 use native.Mathlib.Omega.{arith}
 use native.Mathlib.Nat.{div-eq-of-lt, le-of-lt}
 use mathlib.Core.Path.{_≡_, refl, sym, ap, _∙_}
-use mathlib.Core.Bool.{Bool, true, false, not, cond, _&&_, _||_}
+use mathlib.Core.Bool.{Bool, true, false, cond, _&&_, _||_}
 use mathlib.Core.List.{List, [], _∷_, _++_}
 use lib.Dec.{leb, ltb, eqb}
 use lib.IntN.{ℤ, pos, negsuc, natAbs, _+ℤ_}
 use lib.ListN.{getD, take}
 use borrow.Author.Tests.{ltb-true, ltb-false, leb-true, eqb-true, eqb-false, lt-ltb, le-ltb, le-leb, eq-eqb, ne-eqb}
-use Rattle.rules.specs.Samples.{odd}
+use Rattle.rules.specs.Samples.{odd, bit}
 use Rattle.rules.proofs.Truth.{or-left, or-right, or-second}
-use Rattle.codes.specs.Pulses.{C1, C2, C4, D1, digit, digitsAt, clear, anyClear, wordOf}
+use Rattle.codes.specs.Pulses.{C1, C2, C4, D1, digit, digitsAt, anyClear, wordOf}
 use Rattle.codes.specs.Gray.{gray, grayFrom, grayOf}
 use Rattle.codes.specs.Altitude.{feet, unsure, none, eight, three as three-pulses, eleven, fiveHundreds, group, groups, hundreds, turned, stepsBy, steps, feetAt, hasNone, altitude}
 use Rattle.codes.specs.Writing.{code, noCode, threeDigits, groupOf, written, codeOf, raised}
+use Rattle.codes.proofs.DigitTests.{passes, passed}
 use Rattle.codes.proofs.GrayLaws.{read-written, written-read}
 use Rattle.altitudes.proofs.Feet.{feet-low, feet-high}
 use Rattle.altitudes.proofs.AltitudeLaws.{five-hundreds-below, none-is, is-feet}
 use Rattle.encoder.specs.RoundTrip.{altitudeAt, elevenOf, CodeOf, differing, RoundTrip}
 use Rattle.encoder.proofs.WritingLaws.{sum-low, codeAt, code-is, raised-most, turned-least}
-use Rattle.encoder.proofs.DigitLaws.{passes, passed, Digits, digits-back, d1-clear}
+use Rattle.encoder.proofs.DigitLaws.{Digits, digits-back, d1-clear}
 
 -- ---- altitudes, steps and feet above -1,300 ft
 
@@ -172,7 +173,7 @@ module _ (s : ℕ) (l : 3 ≤ s) (m : s ≤ 1280) where
   group-written e =
       let r = turned-least n h₀ (first-five .0) (first-five .1) in omega (arith, h-back n (turned n h₀) small counted, e, r .0)
 
-  d1-written : clear (written s) D1 ≡ true
+  d1-written : bit D1 (written s) ≡ false
   unfolding written written-digits n h₀
   d1-written = d1-clear (written-digits n (turned n h₀)) (are-digits n (turned n h₀))
 
@@ -274,16 +275,16 @@ reads-feet w confidence z e = go (anyClear eleven confidence) (hasNone w) refl e
     go false false p q = record { has = p; is = cc }
 
 module _ (w : ℕ) (e : hasNone w ≡ false) where
-  tests : (eqb (hundreds (group w)) 0 || (not (clear w D1) || ltb (steps w) 3)) ≡ false
+  tests : (eqb (hundreds (group w)) 0 || (bit D1 w || ltb (steps w) 3)) ≡ false
   tests = sym (none-is w) ∙ e
 
   some-group : hundreds (group w) ≡ 0 → ⊥
-  some-group = eqb-false (hundreds (group w)) 0 (or-left (eqb (hundreds (group w)) 0) (not (clear w D1) || ltb (steps w) 3) tests)
+  some-group = eqb-false (hundreds (group w)) 0 (or-left (eqb (hundreds (group w)) 0) (bit D1 w || ltb (steps w) 3) tests)
 
   least : 3 ≤ steps w
   least =
       ltb-false (steps w) 3
-      (or-right (not (clear w D1)) (ltb (steps w) 3) (or-right (eqb (hundreds (group w)) 0) (not (clear w D1) || ltb (steps w) 3) tests))
+      (or-right (bit D1 w) (ltb (steps w) 3) (or-right (eqb (hundreds (group w)) 0) (bit D1 w || ltb (steps w) 3) tests))
 
   most : steps w ≤ 1280
   unfolding steps
