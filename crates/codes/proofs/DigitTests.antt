@@ -1,5 +1,5 @@
 -- Tests of all lists of so many digits: a test that is computed for each list holds of any list of digits.
-use Prim.Native.Nat.{ℕ, zero, suc, _<_}
+use Prim.Native.Nat.{ℕ, zero, suc, _%_, _<_}
 use native.Mathlib.Omega.{arith}
 use mathlib.Core.Path.{_≡_}
 use mathlib.Core.Bool.{Bool, true, _&&_}
@@ -7,6 +7,9 @@ use mathlib.Core.List.{List, [], _∷_}
 use lib.ListN.{length}
 use Rattle.rules.specs.Lists.{All}
 use Rattle.rules.proofs.Truth.{and-left, and-right}
+
+pub below-two : (x : ℕ) → x % 2 < 2
+below-two x = omega arith
 
 -- a test that all lists of k digits pass
 unfoldable pub passes : ℕ → (List ℕ → Bool) → Bool

@@ -1,5 +1,5 @@
 -- Pulses by a mask: a word and a mask have the mask's pulses of the word, and these are the mask exactly if all of them are set.
-use Prim.Native.Nat.{ℕ, suc, _+_, _*_, _/_, _%_, _^_, _<_, min}
+use Prim.Native.Nat.{ℕ, suc, _+_, _*_, _/_, _%_, _^_, min}
 use native.Mathlib.Omega.{arith}
 use native.Mathlib.Nat.{div-one}
 use mathlib.Core.Path.{_≡_, refl, sym, ap, _∙_}
@@ -13,7 +13,7 @@ use Rattle.codes.specs.Pulses.{C1, A1, C2, A2, C4, A4, B1, D1, B2, D2, B
 use Rattle.codes.specs.Altitude.{eleven}
 use Rattle.codes.specs.Identity.{twelve}
 use Rattle.codes.proofs.GrayLaws.{half}
-use Rattle.codes.proofs.DigitTests.{passes, passed}
+use Rattle.codes.proofs.DigitTests.{below-two, passes, passed}
 
 -- ---- a word and a mask, digit by digit
 
@@ -94,9 +94,6 @@ all-eleven = refl
 all-twelve : passes 12 (maskTest twelve 0x1fbf) ≡ true
 unfolding passes maskTest agree
 all-twelve = refl
-
-below-two : (x : ℕ) → x % 2 < 2
-below-two x = omega arith
 
 by-mask : (ps : List ℕ) (mask c : ℕ) → bitAnd (c / 2 ^ 0) mask ≡ wordOf ps (digitsAt ps c) → maskTest ps mask (digitsAt ps c) ≡ true
     → not (eqb (bitAnd c mask) mask) ≡ any (λ d. eqb d 0) (digitsAt ps c)

@@ -15,7 +15,7 @@ use Rattle.codes.specs.Pulses.{C1, C2, C4, D1, digit, digitsAt, anyClear, wordO
 use Rattle.codes.specs.Gray.{gray, grayFrom, grayOf}
 use Rattle.codes.specs.Altitude.{feet, unsure, none, eight, three as three-pulses, eleven, fiveHundreds, group, groups, hundreds, turned, stepsBy, steps, feetAt, hasNone, altitude}
 use Rattle.codes.specs.Writing.{code, noCode, threeDigits, groupOf, written, codeOf, raised}
-use Rattle.codes.proofs.DigitTests.{passes, passed}
+use Rattle.codes.proofs.DigitTests.{below-two, passes, passed}
 use Rattle.codes.proofs.GrayLaws.{read-written, written-read}
 use Rattle.altitudes.proofs.Feet.{feet-low, feet-high}
 use Rattle.altitudes.proofs.AltitudeLaws.{five-hundreds-below, none-is, is-feet}
@@ -107,9 +107,6 @@ group-number four = refl
 group-number five = refl
 
 -- ---- a written code is read
-
-below-two : (x : ℕ) → x % 2 < 2
-below-two x = omega arith
 
 written-digits : ℕ → ℕ → List ℕ
 written-digits n h = grayOf 8 n ++ groupOf h
