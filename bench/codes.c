@@ -105,28 +105,23 @@ static double time_writer(writer *write)
     return (end - start) / WORDS;
 }
 
-static void show(const char *name, double c, double proved) { printf("| %s | %.2f | %.2f | %.2f |\n", name, c, proved, proved / c); }
+static double altitudes_in_c(void) { return time_reader(altitude_in_c); }
+static double altitudes_proved(void) { return time_reader(altitude_number); }
+static double identities_in_c(void) { return time_reader(identity_in_c); }
+static double identities_proved(void) { return time_reader(identity_number); }
+static double codes_in_c(void) { return time_writer(code_in_c); }
+static double codes_proved(void) { return time_writer(code_number); }
 
-static void show_reader(const char *name, reader *in_c, reader *proved)
+// The least time of each in turn.
+static void show(const char *name, double in_c(void), double proved(void))
 {
     double a = 1e9, b = 1e9;
     for (int i = 0; i < ROUNDS; i++) {
-        double x = time_reader(in_c), y = time_reader(proved);
+        double x = in_c(), y = proved();
         a = x < a ? x : a;
         b = y < b ? y : b;
     }
-    show(name, a, b);
-}
-
-static void show_writer(const char *name, writer *in_c, writer *proved)
-{
-    double a = 1e9, b = 1e9;
-    for (int i = 0; i < ROUNDS; i++) {
-        double x = time_writer(in_c), y = time_writer(proved);
-        a = x < a ? x : a;
-        b = y < b ? y : b;
-    }
-    show(name, a, b);
+    printf("| %s | %.2f | %.2f | %.2f |\n", name, a, b, b / a);
 }
 
 int main(void)
@@ -143,9 +138,9 @@ int main(void)
             same[k] ? right[k]++ : wrong++;
     }
     printf("| ns a call | C | Proved | Proved / C |\n| --- | ---: | ---: | ---: |\n");
-    show_reader("altitude", altitude_in_c, altitude_number);
-    show_reader("identity", identity_in_c, identity_number);
-    show_writer("code of a number of feet", code_in_c, code_number);
+    show("altitude", altitudes_in_c, altitudes_proved);
+    show("identity", identities_in_c, identities_proved);
+    show("code of a number of feet", codes_in_c, codes_proved);
     printf("%d passed, %d failed\n", right[0] + right[1] + right[2], wrong);
     return wrong != 0;
 }
