@@ -29,8 +29,8 @@ pub record AdvancePost (f : Front) (x : Planes) (r : ℕ) (f′ : Front) : Type 
   pub result : (F G : List ℕ) → f ≡ frontOf F → length G ≡ r → Low G x → f′ ≡ frontOf (F ++ G)
 
 -- all words are 0
-abbrev pub still : Front → Bool
-still f = eqb (f .a) 0 && (eqb (f .a1) 0 && (eqb (f .p) 0 && (eqb (f .p1) 0 && (eqb (f .n) 0 && (eqb (f .n1) 0 && (eqb (f .l) 0 && (eqb (f .l1) 0 && (eqb (f .k) 0 && (eqb (f .k1) 0 && (eqb (f .h) 0 && (eqb (f .h1) 0 && (eqb (f .e) 0 && (eqb (f .e1) 0 && (eqb (f .e2) 0 && (eqb (f .e3) 0 && (eqb (f .m) 0 && (eqb (f .m1) 0 && (eqb (f .m2) 0 && (eqb (f .m3) 0)))))))))))))))))))
+abbrev pub blank : Front → Bool
+blank f = eqb (f .a) 0 && (eqb (f .a1) 0 && (eqb (f .p) 0 && (eqb (f .p1) 0 && (eqb (f .n) 0 && (eqb (f .n1) 0 && (eqb (f .l) 0 && (eqb (f .l1) 0 && (eqb (f .k) 0 && (eqb (f .k1) 0 && (eqb (f .h) 0 && (eqb (f .h1) 0 && (eqb (f .e) 0 && (eqb (f .e1) 0 && (eqb (f .e2) 0 && (eqb (f .e3) 0 && (eqb (f .m) 0 && (eqb (f .m1) 0 && (eqb (f .m2) 0 && (eqb (f .m3) 0)))))))))))))))))))
 
 -- ---- values
 

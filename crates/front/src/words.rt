@@ -3,7 +3,7 @@ ghost use Prim.Native.Nat.{_<_, _≤_};
 ghost use mathlib.Core.Path.{_≡_};
 ghost use mathlib.Core.List.{[]};
 ghost use Rattle.front.specs.Words.{frontOf};
-ghost use Rattle.front.specs.Post.{AdvancePost, still};
+ghost use Rattle.front.specs.Post.{AdvancePost, blank};
 use edges::detection::Past;
 use edges::detection::detect_or_skip;
 use packing::Planes;
@@ -92,8 +92,8 @@ pub fn advance(f: Front, x: Planes, r: u32) -> Front
 }
 
 // Whether all words are 0: no flag in the last 128 ticks, and neither an edge nor an M in the last 256.
-pub fn is_still(f: Front) -> bool
-    ensures { λ r. ⌜ r ≡ still f ⌝ }
+pub fn is_blank(f: Front) -> bool
+    ensures { λ r. ⌜ r ≡ blank f ⌝ }
 {
     (f.a == 0)
         & ((f.a1 == 0)

@@ -10,12 +10,10 @@ use Rattle.rules.specs.Lists.{All}
 use Rattle.rules.specs.Samples.{Trace, _⧺_, sweepLimit}
 use Rattle.rules.specs.Calls.{fresh, silence, takeRoom, closeRoom}
 use Rattle.machine.specs.Places.{machineOf}
-use Rattle.columns.specs.Columns.{Rows, Sized}
-use Rattle.blocks.specs.declared.Run.{Run}
-use Rattle.blocks.specs.declared.Stand.{Stand}
+use Rattle.blocks.specs.declared.Progress.{Progress}
 use Rattle.front.specs.Words.{frontOf, recentOf}
 use Rattle.front.specs.Post.{Reads}
-use Rattle.blocks.specs.Steps.{stateAt, Bounded, Fed, runOf, FedColumns}
+use Rattle.blocks.specs.Steps.{stateAt, Bounded, Fed}
 
 -- a block has 64 ticks, or all that are left
 abbrev pub blockLength : ℕ → ℕ
@@ -24,7 +22,7 @@ blockLength n = cond (ltb n 64) n 64
 -- ---- a piece
 
 -- o is where a piece of flags and values begins, behind the trace T; the buffer b₀ has the room that document 01 asks for
-pub record Begins (T : Trace) (o : Run) (recent : List ℕ) (base : ℕ) (flags values b₀ : List ℕ) : Type 0 where
+pub record Begins (T : Trace) (o : Progress) (recent : List ℕ) (base : ℕ) (flags values b₀ : List ℕ) : Type 0 where
   pub front : o .front ≡ frontOf (T .flags)
   pub machine : o .machine ≡ machineOf (stateAt T (length (T .flags) - 178))
   pub place : o .at ≡ 0
@@ -42,7 +40,7 @@ abbrev pub upTo : List ℕ → List ℕ → ℕ → Trace
 upTo flags values n = record { flags = take n flags; values = take n values }
 
 -- o is where flags and values begin, behind the trace T: at each of their ticks edges stand within the limit of a sweep, the values are at hand, and the buffer b₀ has room
-pub record Enters (T : Trace) (o : Run) (recent : List ℕ) (base : ℕ) (flags values b₀ : List ℕ) : Type 0 where
+pub record Enters (T : Trace) (o : Progress) (recent : List ℕ) (base : ℕ) (flags values b₀ : List ℕ) : Type 0 where
   pub front : o .front ≡ frontOf (T .flags)
   pub machine : o .machine ≡ machineOf (stateAt T (length (T .flags) - 178))
   pub place : o .at ≡ 0
@@ -53,26 +51,18 @@ pub record Enters (T : Trace) (o : Run) (recent : List ℕ) (base : ℕ) (flags 
   pub reads : (n : ℕ) → n ≤ length flags → Reads (T ⧺ upTo flags values n) (base + n) recent base values
   pub room : (n : ℕ) → n ≤ length flags → 18 * length (fresh standard T (upTo flags values n)) ≤ length b₀
 
-pub record BlocksPost (x : Rows) (o : Stand) (recent : List ℕ) (base : ℕ) (flags values b : List ℕ) (x′ : Rows) (y : Stand) (b′ : List ℕ) : Type 0 where
-  pub same : length b′ ≡ length b
-  pub result : Sized x → (T : Trace) → Enters T (runOf x o) recent base flags values b → FedColumns T (record { flags = flags; values = values }) b x′ y b′
-
-pub record ColumnsPost (x : Rows) (o : Stand) (recent : List ℕ) (base : ℕ) (flags values b : List ℕ) (x′ : Rows) (y : Stand) (b′ : List ℕ) : Type 0 where
-  pub same : length b′ ≡ length b
-  pub result : Sized x → (T : Trace) → Begins T (runOf x o) recent base flags values b → FedColumns T (record { flags = flags; values = values }) b x′ y b′
-
-pub record RunPost (o : Run) (recent : List ℕ) (base : ℕ) (flags values b : List ℕ) (y : Run) (b′ : List ℕ) : Type 0 where
+pub record BlocksPost (o : Progress) (recent : List ℕ) (base : ℕ) (flags values b : List ℕ) (y : Progress) (b′ : List ℕ) : Type 0 where
   pub same : length b′ ≡ length b
   pub result : (T : Trace) → Enters T o recent base flags values b → Fed T (record { flags = flags; values = values }) b y b′
 
-pub record FeedPost (o : Run) (recent : List ℕ) (base : ℕ) (flags values b : List ℕ) (y : Run) (b′ : List ℕ) : Type 0 where
+pub record FeedPost (o : Progress) (recent : List ℕ) (base : ℕ) (flags values b : List ℕ) (y : Progress) (b′ : List ℕ) : Type 0 where
   pub same : length b′ ≡ length b
   pub result : (T : Trace) → Begins T o recent base flags values b → Fed T (record { flags = flags; values = values }) b y b′
 
 -- ---- the ticks past the end
 
 -- o is where the trace T ends; the buffer b₀ has the room that document 01 asks of a close
-pub record Ends (T : Trace) (o : Run) (recent : List ℕ) (base : ℕ) (b₀ : List ℕ) : Type 0 where
+pub record Ends (T : Trace) (o : Progress) (recent : List ℕ) (base : ℕ) (b₀ : List ℕ) : Type 0 where
   pub front : o .front ≡ frontOf (T .flags)
   pub machine : o .machine ≡ machineOf (stateAt T (length (T .flags) - 178))
   pub place : o .at ≡ 0
@@ -84,6 +74,6 @@ pub record Ends (T : Trace) (o : Run) (recent : List ℕ) (base : ℕ) (b₀ : L
   pub room : closeRoom ≤ length b₀
 
 -- 448 zeros complete every reply
-pub record DrainPost (o : Run) (recent : List ℕ) (base : ℕ) (b : List ℕ) (y : Run) (b′ : List ℕ) : Type 0 where
+pub record DrainPost (o : Progress) (recent : List ℕ) (base : ℕ) (b : List ℕ) (y : Progress) (b′ : List ℕ) : Type 0 where
   pub same : length b′ ≡ length b
   pub result : (T : Trace) → Ends T o recent base b → Fed T (silence 448) b y b′

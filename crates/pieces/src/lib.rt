@@ -3,21 +3,59 @@ ghost use Prim.Native.Nat.{_+_, _≤_, _<_};
 ghost use mathlib.Core.Path.{_≡_};
 ghost use lib.ListN.{length};
 ghost use Rattle.packing.specs.Packing.{PackedPart};
-ghost use Rattle.pieces.specs.Feeding.{blockLength, BlocksPost, ColumnsPost, RunPost, FeedPost, DrainPost};
-use blocks::Run;
-use blocks::Stand;
-use blocks::block;
+ghost use Rattle.pieces.specs.Feeding.{blockLength, BlocksPost, FeedPost, DrainPost};
+use blocks::Progress;
+use blocks::none_due;
+use blocks::pulse_at;
 use blocks::stays;
-use columns::rows::places_of;
-use lanes::load;
+use blocks::wanted;
+use covering::any_word;
+use covering::behind;
+use covering::covers_of;
+use covering::risks_of;
+use covering::twice;
+use covering::which;
+use covering::with_word;
+use covering::without_word;
+use front::span::above;
+use front::span::apart;
+use front::span::framed;
+use front::span::second_main;
+use front::span::span_of;
+use front::span::tick_of;
+use front::span::top;
+use front::words::advance;
+use machine::any3;
+use masks::open_cover;
+use masks::open_phantom;
+use outcomes::counted;
+use outcomes::firsts_of;
+use outcomes::free;
+use outcomes::is_busy;
+use outcomes::is_over;
+use outcomes::opened;
+use outcomes::opens;
+use outcomes::outcome_of;
+use outcomes::removed_by;
 use packing::Planes;
 use packing::flags::bare_block;
 use packing::pack;
 use packing::pack_part;
+use plane::lowest;
+use plane::marked;
+use plane::without_lowest;
+use records::hand_one;
 use rules::Machine;
+use rules::Place;
+use rules::Places;
+use rules::Slot;
+use rules::Tick;
+use settling::heard;
+use settling::speaks;
+use settling::voices_of;
 
 // The planes of r ticks from o on.
-pub fn packed(flags: &[u8], o: usize, r: usize) -> Planes
+fn packed(flags: &[u8], o: usize, r: usize) -> Planes
     requires { ⌜ (o + r ≤ length (now flags)) × (r ≤ 64) ⌝ }
     ensures { λ x. ⌜ PackedPart (now (flags .entry)) o r x ⌝ }
 {
@@ -48,165 +86,149 @@ fn block_length(n: usize) -> usize
     64
 }
 
-// The columns after the flags of a piece, which begins once `base` ticks are taken.
+// The progress after the flags of a piece, which begins once `base` ticks are taken. The four places are changed where they stand: one goes by value into a
+// function and comes back. `from` shows that the visits end: the edges before tick `from` of the span are taken.
 fn feed_blocks(
-    f1: &mut [u32; 4],
-    marks: &mut [u16; 4],
-    row: &mut [u16; 24],
-    level: &mut [f64; 4],
-    on: &mut [u64; 8],
-    o: Stand,
+    o: Progress,
     recent: &[u8; 256],
     base: u32,
     flags: &[u8],
     values: &[u8],
     out: &mut [u8],
-) -> Stand
+) -> Progress
     requires { ⌜ base + length (now flags) < 65000 ⌝ }
-    ensures { λ y. ⌜ BlocksPost (record { f1 = now (f1 .entry); marks = now (marks .entry); row = now (row .entry); level = now (level .entry); on = now (on .entry) }) o (now (recent .entry)) base (now (flags .entry)) (now (values .entry)) (now (out .entry)) (record { f1 = now (f1 .exit); marks = now (marks .exit); row = now (row .exit); level = now (level .exit); on = now (on .exit) }) y (now (out .exit)) ⌝ }
+    ensures { λ y. ⌜ BlocksPost o (now (recent .entry)) base (now (flags .entry)) (now (values .entry)) (now (out .entry)) y (now (out .exit)) ⌝ }
 {
     let n = flags.len();
-    let mut run = o;
-    let mut i: usize = 0;
-    while i < n {
-        let r = block_length(n - i);
-        let x = packed(flags, i, r);
-        let next = i + r;
-        let t = base + next as u32;
-        if stays(run.front, f1, x, t) {
-            i = next;
+    let mut front = o.front;
+    let m = o.machine;
+    let p = m.places;
+    let mut places = [p.p0, p.p1, p.p2, p.p3];
+    let mut counts = m.counts;
+    let mut at = o.at;
+    let mut done: usize = 0;
+    while done < n {
+        let r = block_length(n - done);
+        let x = packed(flags, done, r);
+        done += r;
+        let t = base + done as u32;
+        if stays(front, places[0], x, t) {
             continue;
         }
-        let y = block(
-            f1,
-            marks,
-            row,
-            level,
-            on,
-            run,
-            x,
-            r as u32,
-            t,
-            recent,
-            base,
-            values,
-            out,
-        );
-        run = y;
-        i = next;
+        front = advance(front, x, r as u32);
+        let s = span_of(front);
+        let due = top(s.due, r as u32);
+        if (due == 0) & none_due(places[0], t) {
+            continue;
+        }
+        let mut on = covers_of(places, t);
+        let mut risk = risks_of(places, t);
+        let mut todo = wanted(s, on, due);
+        let mut from = 64 - r as u32;
+        while todo != 0 {
+            let i = lowest(todo);
+            let u = Tick(tick_of(t, i));
+            if is_over(places[0], u) {
+                at = hand_one(places[0], u, out, at);
+                places = [places[1], places[2], places[3], Place { slot: Slot::Idle }];
+                on = without_word(on, 0);
+                risk = without_word(risk, 0);
+                continue;
+            }
+            let e = pulse_at(recent, base, values, u, marked(s.main, i));
+            if framed(s, i) {
+                let f2 = pulse_at(recent, base, values, Tick(u.0 + apart(s, i)), second_main(s, i));
+                let f = firsts_of(places);
+                let y = outcome_of(f, on, risk, i, e, f2, is_busy(f));
+                counts = counted(y, counts);
+                let k = removed_by(y);
+                if k < 4 {
+                    places = [places[behind(0, k)], places[behind(1, k)], places[behind(2, k)], Place { slot: Slot::Idle }];
+                    on = without_word(on, k);
+                    risk = without_word(risk, k);
+                    continue;
+                }
+                if opens(y) {
+                    let reply = opened(f, on, i, e, f2);
+                    let marks = reply.marks;
+                    let j = free(f);
+                    places[j] = Place { slot: Slot::Open(reply) };
+                    on = with_word(on, j, open_cover(i));
+                    risk = with_word(risk, j, open_phantom(i, marks.suspect));
+                }
+                todo = wanted(s, on, above(due, i));
+            } else {
+                todo = without_lowest(todo);
+            }
+            from = i + 1;
+            if marked(twice(on), i) {
+                let v = voices_of(places, on, i, e.value);
+                if marked(on.a, i) {
+                    let q = places[0];
+                    places[0] = heard(q, e, v.a, any3(v.b, v.c, v.d));
+                }
+                if marked(on.b, i) {
+                    let q = places[1];
+                    places[1] = heard(q, e, v.b, any3(v.a, v.c, v.d));
+                }
+                if marked(on.c, i) {
+                    let q = places[2];
+                    places[2] = heard(q, e, v.c, any3(v.a, v.b, v.d));
+                }
+                if marked(on.d, i) {
+                    let q = places[3];
+                    places[3] = heard(q, e, v.d, any3(v.a, v.b, v.c));
+                }
+                continue;
+            }
+            if marked(any_word(on), i) {
+                let j = which(on, i);
+                let q = places[j];
+                places[j] = heard(q, e, speaks(true, q, e.value), false);
+            }
+        }
+        while !none_due(places[0], t) {
+            at = hand_one(places[0], Tick(t - 179), out, at);
+            places = [places[1], places[2], places[3], Place { slot: Slot::Idle }];
+        }
     }
-    run
-}
-
-// The same for a piece of a sweep. One that would pass the limit of a sweep is not fed.
-pub fn feed_columns(
-    f1: &mut [u32; 4],
-    marks: &mut [u16; 4],
-    row: &mut [u16; 24],
-    level: &mut [f64; 4],
-    on: &mut [u64; 8],
-    o: Stand,
-    recent: &[u8; 256],
-    base: u32,
-    flags: &[u8],
-    values: &[u8],
-    out: &mut [u8],
-) -> Stand
-    ensures { λ y. ⌜ ColumnsPost (record { f1 = now (f1 .entry); marks = now (marks .entry); row = now (row .entry); level = now (level .entry); on = now (on .entry) }) o (now (recent .entry)) base (now (flags .entry)) (now (values .entry)) (now (out .entry)) (record { f1 = now (f1 .exit); marks = now (marks .exit); row = now (row .exit); level = now (level .exit); on = now (on .exit) }) y (now (out .exit)) ⌝ }
-{
-    if 32768 < base as usize + flags.len() {
-        return o;
-    }
-    feed_blocks(
-        f1,
-        marks,
-        row,
-        level,
-        on,
-        o,
-        recent,
-        base,
-        flags,
-        values,
-        out,
-    )
-}
-
-// The run after the flags of a piece, which begins once `base` ticks are taken: the places become columns and then places again.
-fn feed_run(
-    o: Run,
-    recent: &[u8; 256],
-    base: u32,
-    flags: &[u8],
-    values: &[u8],
-    out: &mut [u8],
-) -> Run
-    requires { ⌜ base + length (now flags) < 65000 ⌝ }
-    ensures { λ y. ⌜ RunPost o (now (recent .entry)) base (now (flags .entry)) (now (values .entry)) (now (out .entry)) y (now (out .exit)) ⌝ }
-{
-    let mut f1 = [4294967295u32; 4];
-    let mut marks = [0u16; 4];
-    let mut row = [0u16; 24];
-    let mut level = [0.0f64; 4];
-    let mut on = [0u64; 8];
-    let m = o.machine;
-    let f = m.places;
-    load(&mut f1, &mut marks, &mut row, &mut level, f);
-    let front = o.front;
-    let counts = m.counts;
-    let first = Stand {
+    Progress {
         front,
-        counts,
-        at: o.at,
-    };
-    let y = feed_blocks(
-        &mut f1,
-        &mut marks,
-        &mut row,
-        &mut level,
-        &mut on,
-        first,
-        recent,
-        base,
-        flags,
-        values,
-        out,
-    );
-    let places = places_of(&f1, &marks, &row, &level);
-    let front2 = y.front;
-    let counts2 = y.counts;
-    Run {
-        front: front2,
         machine: Machine {
-            places,
-            counts: counts2,
+            places: Places {
+                p0: places[0],
+                p1: places[1],
+                p2: places[2],
+                p3: places[3],
+            },
+            counts,
         },
-        at: y.at,
+        at,
     }
 }
 
-// The run after a piece of a sweep. One that would pass the limit of a sweep is not fed.
+// The progress after a piece of a sweep. One that would pass the limit of a sweep is not fed.
 pub fn feed(
-    o: Run,
+    o: Progress,
     recent: &[u8; 256],
     base: u32,
     flags: &[u8],
     values: &[u8],
     out: &mut [u8],
-) -> Run
+) -> Progress
     ensures { λ y. ⌜ FeedPost o (now (recent .entry)) base (now (flags .entry)) (now (values .entry)) (now (out .entry)) y (now (out .exit)) ⌝ }
 {
     if 32768 < base as usize + flags.len() {
         return o;
     }
-    feed_run(o, recent, base, flags, values, out)
+    feed_blocks(o, recent, base, flags, values, out)
 }
 
-// The run after 448 ticks of zeros past the end, which complete every reply.
-pub fn drain(o: Run, recent: &[u8; 256], base: u32, out: &mut [u8]) -> Run
+// The progress after 448 ticks of zeros past the end, which complete every reply.
+pub fn drain(o: Progress, recent: &[u8; 256], base: u32, out: &mut [u8]) -> Progress
     requires { ⌜ base < 64000 ⌝ }
     ensures { λ y. ⌜ DrainPost o (now (recent .entry)) base (now (out .entry)) y (now (out .exit)) ⌝ }
 {
     let zeros = [0u8; 448];
-    feed_run(o, recent, base, &zeros, &zeros, out)
+    feed_blocks(o, recent, base, &zeros, &zeros, out)
 }

@@ -131,15 +131,15 @@ pub fn write_record(out: &mut [u8], at: usize, r: Reply)
 // ---- handing out
 
 // Writes the place's reply if it is no longer open at u, where there is room. The place in the buffer behind it.
-pub fn hand_one(p: Place, u: u32, out: &mut [u8], at: usize) -> usize
-    ensures { λ r. ⌜ HandedPost 1 (dueSlot u (p .slot)) at (now (out .entry)) r (now (out .exit)) ⌝ }
+pub fn hand_one(p: Place, u: Tick, out: &mut [u8], at: usize) -> usize
+    ensures { λ r. ⌜ HandedPost 1 (dueSlot (u .0) (p .slot)) at (now (out .entry)) r (now (out .exit)) ⌝ }
 {
     let s = p.slot;
     match s {
         Slot::Idle => at,
         Slot::Open(r) => {
             let q = r.f1;
-            if !ended(q.0, u) {
+            if !ended(q, u) {
                 return at;
             }
             let len = out.len();

@@ -10,6 +10,7 @@ ghost use Rattle.rules.specs.Replies.{Verdict, f1, ended as ended′, military 
 use rules::Estimate;
 use rules::Reference;
 use rules::Reply;
+use rules::Tick;
 use rules::Word;
 
 // The sum in 16 bits.
@@ -20,17 +21,17 @@ pub fn plus(a: u16, b: u16) -> u16
 }
 
 // At tick u a reply with F1 at q is no longer open.
-pub fn ended(q: u32, u: u32) -> bool
-    ensures { λ x. ⌜ ((r : Reply) → f1 r ≡ q → x ≡ ended′ u r) ⌝ }
+pub fn ended(q: Tick, u: Tick) -> bool
+    ensures { λ x. ⌜ ((r : Reply) → r .f1 ≡ q → x ≡ ended′ (u .0) r) ⌝ }
 {
-    q as u64 + 205 < u as u64
+    q.0 as u64 + 205 < u.0 as u64
 }
 
 // A reply that opens at u is military by an open one with F1 at q.
-pub fn military(q: u32, u: u32) -> bool
-    ensures { λ x. ⌜ ((r : Reply) → f1 r ≡ q → x ≡ military′ u r) ⌝ }
+pub fn military(q: Tick, u: Tick) -> bool
+    ensures { λ x. ⌜ ((r : Reply) → r .f1 ≡ q → x ≡ military′ (u .0) r) ⌝ }
 {
-    std::num::wrapping_sub_u64(u as u64, q as u64 + 203) < 3
+    std::num::wrapping_sub_u64(u.0 as u64, q.0 as u64 + 203) < 3
 }
 
 pub fn level_of(e: Estimate) -> f64

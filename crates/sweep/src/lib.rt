@@ -8,13 +8,13 @@ ghost use lib.ListN.{length};
 ghost use Rattle.rules.specs.Samples.{sweepLimit};
 ghost use Rattle.rules.specs.Calls.{accepted, takeAnswer, closeAnswer};
 ghost use Rattle.sweep.specs.State.{idleProcessor, runningProcessor};
-ghost use Rattle.sweep.specs.Post.{openOf, noTotals, TakePost, QuietPost, ClosePost, totalsFrom};
+ghost use Rattle.sweep.specs.Post.{openOf, noTotals, TakePost, quiet, ClosePost, totalsFrom};
 ghost use Rattle.sweep.specs.declared.Answer.the-variants.{Accepted, Refused};
-use blocks::Run;
+use blocks::Progress;
 use blocks::none_due;
 use front::values::keep;
 use front::words::Front;
-use front::words::is_still;
+use front::words::is_blank;
 use front::words::no_front;
 use machine::empty_machine;
 use packing::flags::is_bare;
@@ -22,6 +22,7 @@ use pieces::drain;
 use pieces::feed;
 use rules::Counts;
 use rules::Machine;
+use rules::Place;
 use rules::Totals;
 use verdicts::close_refusal;
 use verdicts::open_refusal;
@@ -111,13 +112,13 @@ fn no_take(p: Processor, number: u8) -> Taken
     }
 }
 
-// What a piece or the zeros past the end go through, at the start of a buffer.
-fn run_of(p: Processor) -> Run
+// Where a piece, or the zeros past the end, begin: at the start of a buffer.
+pub fn progress_of(p: Processor) -> Progress
     ensures { λ r. ⌜ r ≡ record { front = p .front; machine = p .machine; at = 0 } ⌝ }
 {
     let front = p.front;
     let machine = p.machine;
-    Run {
+    Progress {
         front,
         machine,
         at: 0,
@@ -125,7 +126,7 @@ fn run_of(p: Processor) -> Run
 }
 
 // The processor after a piece of n ticks.
-fn moved(p: Processor, y: Run, recent: [u8; 256], n: u32) -> Processor
+fn moved(p: Processor, y: Progress, recent: [u8; 256], n: u32) -> Processor
     requires { ⌜ p .taken + n ≤ sweepLimit ⌝ }
     ensures { λ r. ⌜ r ≡ record { mode = p .mode; azimuth = p .azimuth; taken = p .taken + n; front = y .front; recent = recent; machine = y .machine } ⌝ }
 {
@@ -147,7 +148,7 @@ fn take_piece(p: Processor, flags: &[u8], values: &[u8], out: &mut [u8]) -> Take
     ensures { λ r. ⌜ TakePost p (record { flags = now (flags .entry); values = now (values .entry) }) (now (out .entry)) r (now (out .exit)) ⌝ }
 {
     let mut recent = p.recent;
-    let y = feed(run_of(p), &recent, p.taken, flags, values, out);
+    let y = feed(progress_of(p), &recent, p.taken, flags, values, out);
     keep(&mut recent, values);
     Taken {
         answer: Answer::Accepted(y.at / 18),
@@ -168,8 +169,8 @@ pub fn take(p: Processor, flags: &[u8], values: &[u8], out: &mut [u8]) -> Taken
 }
 
 // Whether these flags, behind `base` ticks, change nothing but the count of ticks and the kept values: no flag is set, no word has a bit, no reply becomes due.
-pub fn is_quiet(f: Front, f1: &[u32; 4], base: u32, flags: &[u8]) -> bool
-    ensures { λ r. ⌜ QuietPost f (now (f1 .entry)) base (now (flags .entry)) r ⌝ }
+pub fn is_quiet(f: Front, first: Place, base: u32, flags: &[u8]) -> bool
+    ensures { λ r. ⌜ r ≡ quiet f first base (now (flags .entry)) ⌝ }
 {
     let more = flags.len();
     if 4096 < more {
@@ -182,10 +183,10 @@ pub fn is_quiet(f: Front, f1: &[u32; 4], base: u32, flags: &[u8]) -> bool
     if !is_bare(flags) {
         return false;
     }
-    if !is_still(f) {
+    if !is_blank(f) {
         return false;
     }
-    none_due(f1, t as u32)
+    none_due(first, t as u32)
 }
 
 // The totals, from the machine's counts.
@@ -231,7 +232,7 @@ fn no_close(p: Processor, number: u8) -> Closed
 }
 
 // What a close answers after the zeros past the end.
-fn closed_after(y: Run) -> Closed
+fn closed_after(y: Progress) -> Closed
     ensures { λ r. ⌜ r ≡ record { answer = Accepted (y .at / 18); totals = totalsFrom (y .machine .counts); processor = idleProcessor } ⌝ }
 {
     let end = y.machine;
@@ -250,7 +251,7 @@ fn close_open(p: Processor, out: &mut [u8]) -> Closed
 {
     let recent = p.recent;
     let base = p.taken % 32769;
-    let y = drain(run_of(p), &recent, base, out);
+    let y = drain(progress_of(p), &recent, base, out);
     closed_after(y)
 }
 

@@ -5,22 +5,20 @@ ghost use lib.ListN.{length};
 ghost use Rattle.verdicts.specs.Whole.{wholeAnswer};
 ghost use Rattle.whole.specs.Post.{arrivedAt, TakeAllPost, CloseAtPost, WholePost};
 ghost use Rattle.rules.specs.Calls.{accepted};
-ghost use Rattle.columns.specs.Columns.{placesIn};
 ghost use Rattle.rules.specs.Buffers.{over};
 ghost use Rattle.frames.specs.Writing.{totalsBytes};
-use blocks::Stand;
-use columns::rows::places_of;
+use blocks::Progress;
 use frames::totals_bytes;
 use front::values::keep;
-use lanes::load;
-use pieces::feed_columns;
-use rules::Machine;
+use pieces::feed;
+use rules::Place;
 use rules::Totals;
 use sweep::Answer;
 use sweep::Processor;
 use sweep::close;
 use sweep::is_quiet;
 use sweep::open;
+use sweep::progress_of;
 use verdicts::whole::whole_refusal;
 
 // The processor after some pieces, and the place in the buffer behind the last record.
@@ -46,23 +44,20 @@ fn behind(at: usize, more: usize, n: usize) -> usize
     at + 18 * least(more / 18, (n - at) / 18)
 }
 
-// The processor after n ticks, with its places from the columns, and the place in the buffer behind the last record.
-fn arrived(
-    p: Processor,
-    run: Stand,
-    f1: &[u32; 4],
-    marks: &[u16; 4],
-    row: &[u16; 24],
-    level: &[f64; 4],
-    recent: [u8; 256],
-    n: u32,
-    at: usize,
-) -> Reached
-    ensures { λ r. ⌜ r ≡ arrivedAt p run (placesIn (now (f1 .entry)) (now (marks .entry)) (now (row .entry)) (now (level .entry))) recent n at ⌝ }
+fn first_place(y: Progress) -> Place
+    ensures { λ p. ⌜ p ≡ y .machine .places .p0 ⌝ }
 {
-    let places = places_of(f1, marks, row, level);
-    let front = run.front;
-    let counts = run.counts;
+    let m = y.machine;
+    let f = m.places;
+    f.p0
+}
+
+// The processor after n ticks, from how far the pieces have come, and the place in the buffer behind the last record.
+fn arrived(p: Processor, y: Progress, recent: [u8; 256], n: u32, at: usize) -> Reached
+    ensures { λ r. ⌜ r ≡ arrivedAt p y recent n at ⌝ }
+{
+    let front = y.front;
+    let machine = y.machine;
     Reached {
         processor: Processor {
             mode: p.mode,
@@ -70,50 +65,31 @@ fn arrived(
             taken: n,
             front,
             recent,
-            machine: Machine { places, counts },
+            machine,
         },
         at,
     }
 }
 
-// All pieces, of `piece` ticks each but for the last. The places stand as columns all the way; a piece that finds nothing is taken in place.
+// All pieces, of `piece` ticks each but for the last. A piece that finds nothing is taken in place.
 fn take_all(p: Processor, flags: &[u8], values: &[u8], piece: usize, out: &mut [u8]) -> Reached
     requires { ⌜ (length (now flags) ≡ length (now values)) × (1 ≤ piece) × (length (now flags) ≤ 32768) ⌝ }
     ensures { λ r. ⌜ TakeAllPost p (record { flags = now (flags .entry); values = now (values .entry) }) piece (now (out .entry)) r (now (out .exit)) ⌝ }
 {
     let n = flags.len();
-    let mut f1 = [4294967295u32; 4];
-    let mut marks = [0u16; 4];
-    let mut row = [0u16; 24];
-    let mut level = [0.0f64; 4];
-    let mut on = [0u64; 8];
-    let m = p.machine;
-    let f = m.places;
-    load(&mut f1, &mut marks, &mut row, &mut level, f);
-    let first = p.front;
-    let counts = m.counts;
-    let mut run = Stand {
-        front: first,
-        counts,
-        at: 0,
-    };
+    let mut y = progress_of(p);
     let mut recent = p.recent;
     let mut at: usize = 0;
     let mut i: usize = 0;
     while i < n {
         let end = i + least(piece, n - i);
-        if is_quiet(run.front, &f1, i as u32, &flags[i..end]) {
+        if is_quiet(y.front, first_place(y), i as u32, &flags[i..end]) {
             keep(&mut recent, &values[i..end]);
             i = end;
             continue;
         }
-        let y = feed_columns(
-            &mut f1,
-            &mut marks,
-            &mut row,
-            &mut level,
-            &mut on,
-            run,
+        let z = feed(
+            y,
             &recent,
             i as u32,
             &flags[i..end],
@@ -121,12 +97,12 @@ fn take_all(p: Processor, flags: &[u8], values: &[u8], piece: usize, out: &mut [
             &mut out[at..],
         );
         keep(&mut recent, &values[i..end]);
-        at = behind(at, y.at, out.len());
-        run = y;
-        run.at = 0;
+        at = behind(at, z.at, out.len());
+        y = z;
+        y.at = 0;
         i = end;
     }
-    arrived(p, run, &f1, &marks, &row, &level, recent, n as u32, at)
+    arrived(p, y, recent, n as u32, at)
 }
 
 // The close, whose records land behind those of the pieces, and the totals. Answers how many records there are in all.

@@ -22,7 +22,7 @@ returns c =
     let s = c .before .before .before .before .s in
     let ended = c .before .ended in
     let if1 = c .if1 in
-    hand-open (args .u) (args .at) (args .out .now) (args .p .slot) _ (s .given .1) (sym (ended .ensures _ refl) ∙ not-true _ (if1 .taken))
+    hand-open (args .u .0) (args .at) (args .out .now) (args .p .slot) _ (s .given .1) (sym (ended .ensures _ refl) ∙ not-true _ (if1 .taken))
 
 returns-2 : tie.Need-returns-2
 returns-2 c =
@@ -30,7 +30,7 @@ returns-2 c =
     let s = c .before .before .before .before .before .s in
     let ended = c .before .before .ended in
     let if1 = c .before .if1 in
-    hand-short (args .u) (args .at) (args .out .now) (args .p .slot) _ (s .given .1) (sym (ended .ensures _ refl) ∙ not-false _ (if1 .left)) (omega arith)
+    hand-short (args .u .0) (args .at) (args .out .now) (args .p .slot) _ (s .given .1) (sym (ended .ensures _ refl) ∙ not-false _ (if1 .left)) (omega arith)
 
 returns-3 : tie.Need-returns-3
 returns-3 c =
@@ -38,7 +38,7 @@ returns-3 c =
     let s = c .before .before .before .before .before .before .s in
     let ended = c .before .before .before .ended in
     let if1 = c .before .before .if1 in
-    hand-short (args .u) (args .at) (args .out .now) (args .p .slot) _ (s .given .1) (sym (ended .ensures _ refl) ∙ not-false _ (if1 .left)) (omega arith)
+    hand-short (args .u .0) (args .at) (args .out .now) (args .p .slot) _ (s .given .1) (sym (ended .ensures _ refl) ∙ not-false _ (if1 .left)) (omega arith)
 
 write-record-requires : tie.Need-write-record-requires
 write-record-requires c κs = search needs
@@ -50,7 +50,7 @@ returns-4 : tie.Need-returns-4
 returns-4 c =
     let args = c .before .before .before .args in
     let enum-told = c .enum-told in
-    hand-idle (args .u) (args .at) (args .out .now) (args .p .slot) (enum-told .given .1)
+    hand-idle (args .u .0) (args .at) (args .out .now) (args .p .slot) (enum-told .given .1)
 
 same-length : tie.Need-same-length
 same-length c = search needs
@@ -64,7 +64,7 @@ returns-5 c =
     let if2 = c .before .before .before .before .before .if2 in
     let if3 = c .before .before .before .before .if3 in
     let write-record = c .before .before .write-record in
-    hand-done (args .u) (args .at) (args .out .now) (args .p .slot) _ (s .given .1) (sym (ended .ensures _ refl) ∙ not-false _ (if1 .left))
+    hand-done (args .u .0) (args .at) (args .out .now) (args .p .slot) _ (s .given .1) (sym (ended .ensures _ refl) ∙ not-false _ (if1 .left))
     (omega (arith, if2 .left, if3 .left)) (write-record .last .0) (write-record .ensures)
 
 pub hand-one-spec : {M : Type 1} → statement M

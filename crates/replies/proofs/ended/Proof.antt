@@ -1,14 +1,23 @@
--- `replies::ended` meets its contract.
 use borrow.Author.Needs.{needs}
+use mathlib.Core.Path.{ap}
+use Rattle.rules.specs.declared.Tick.{Tick}
 use Rattle.replies.proofs.ReplyLaws.{ended-is}
 use Rattle.replies.proofs.ended.Statement.{statement}
 use Rattle.replies.proofs.ended.Tie as tie
+use Rattle.replies.proofs.ended.Reads as reads
+use Rattle.replies.proofs.ended.Lts as lts
+
+cast-result : tie.Need-cast-result
+cast-result c = search needs
 
 add-result : tie.Need-add-result
 add-result c = search needs
 
+cast-result-2 : tie.Need-cast-result-2
+cast-result-2 c = search needs
+
 returns : tie.Need-returns
-returns c = λ r e. ended-is (c .args .q) (c .args .u) r e
+returns c = λ r e. ended-is (c .before .before .args .q .0) (c .before .before .args .u .0) r (ap (λ (q : Tick). q .0) e)
 
 pub ended-spec : {M : Type 1} → statement M
-ended-spec = tie.close (tie.spec add-result returns)
+ended-spec = tie.close (tie.spec cast-result add-result cast-result-2 returns)

@@ -1,24 +1,37 @@
--- `replies::military` meets its contract.
 use native.Mathlib.Omega.{arith}
-use Rattle.replies.proofs.ReplyLaws.{military-is}
 use borrow.Author.Needs.{needs}
+use mathlib.Core.Path.{ap}
+use Rattle.rules.specs.declared.Tick.{Tick}
+use Rattle.replies.proofs.ReplyLaws.{military-is}
 use Rattle.replies.proofs.military.Statement.{statement}
 use Rattle.replies.proofs.military.Tie as tie
 use Rattle.replies.proofs.military.Reads as reads
 use Rattle.replies.proofs.military.Lts as lts
 use Rattle.std.proofs.num.wrapping_sub_u64.Reads as wrapping-sub-u64-reads
 
--- src/lib.rt:31:42
+cast-wrapping-sub-u64 : tie.Need-cast-wrapping-sub-u64
+cast-wrapping-sub-u64 c = search needs
+
+cast-wrapping-sub-u64-2 : tie.Need-cast-wrapping-sub-u64-2
+cast-wrapping-sub-u64-2 c = search needs
+
 add-wrapping-sub-u64 : tie.Need-add-wrapping-sub-u64
 add-wrapping-sub-u64 c = search needs
 
--- src/lib.rt:31:5
 wrapping-sub-u64-requires : tie.Need-wrapping-sub-u64-requires
 wrapping-sub-u64-requires c κs = search needs
 
--- src/lib.rt:28:1
 returns : tie.Need-returns
-returns c = λ r e. military-is (c .before .args .q) (c .before .args .u) r e (c .wrapping-sub-u64 .result) (omega arith) (omega arith) (omega arith) (c .wrapping-sub-u64 .ensures)
+returns c =
+    let args = c .before .before .before .args in
+    λ r e. military-is (args .q .0) (args .u .0) r (ap (λ (q : Tick). q .0) e) (c .wrapping-sub-u64 .result) (omega arith) (omega arith) (omega arith) (c .wrapping-sub-u64 .ensures)
 
 pub military-spec : {M : Type 1} → statement M
-military-spec = tie.close (tie.spec add-wrapping-sub-u64 wrapping-sub-u64-requires returns)
+military-spec =
+    tie.close
+    (tie.spec
+    cast-wrapping-sub-u64
+    cast-wrapping-sub-u64-2
+    add-wrapping-sub-u64
+    wrapping-sub-u64-requires
+    returns)

@@ -1,2 +1,0 @@
-pub mod ColumnLaws
-pub mod Holding

@@ -1,0 +1,3 @@
+-- What the words of ticks say of the places.
+pub mod Marks
+pub mod Starts

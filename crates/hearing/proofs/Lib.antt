@@ -1,2 +1,0 @@
-pub mod FreshBits
-pub mod Dealing

@@ -1,0 +1,3 @@
+-- What becomes of a bracket.
+pub mod Fates
+pub mod Outcomes

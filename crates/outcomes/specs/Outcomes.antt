@@ -1,0 +1,59 @@
+-- What becomes of a bracket with F1 at e and F2 at f2, phantoms removed one by one.
+use Prim.Native.Nat.{ℕ, _<_}
+use mathlib.Core.Path.{_≡_}
+use mathlib.Core.Bool.{Bool, true, false, not, _&&_, _||_, cond}
+use mathlib.Core.List.{List}
+use lib.Dec.{ltb}
+use Rattle.rules.specs.declared.Place.{Place}
+use Rattle.rules.specs.declared.Pulse.{Pulse}
+use Rattle.rules.specs.declared.Counts.{Counts}
+use Rattle.rules.specs.declared.Fate.the-variants.{Sidelobe, Garbled, Lost, Opens}
+use Rattle.rules.specs.Replies.{covers, isPhantom}
+use Rattle.rules.specs.Machine.{tally}
+use Rattle.replies.specs.Sums.{wrapped}
+use Rattle.machine.specs.Places.{anyIn}
+use Rattle.covering.specs.declared.Words.{Words}
+use Rattle.covering.specs.Marks.{four, Marked, lastOn}
+use Rattle.outcomes.specs.declared.Firsts.{Firsts}
+use Rattle.outcomes.specs.declared.Outcome.{Outcome}
+use Rattle.outcomes.specs.declared.Outcome.the-variants.{Sidelobe as Aside, Removes, Garbled as Garbles, Lost as Loses, Opens as Opening}
+use Rattle.outcomes.specs.Fates.{firstsOf, AllEarly}
+
+-- By whether a framing pulse has M, by the place of the last phantom (4 for none), by whether a framing pulse has M and is uncovered, and by whether no place is idle.
+abbrev pub outcomeBy : Bool → ℕ → Bool → Bool → Outcome
+outcomeBy main k clear busy = cond main (cond (ltb k 4) (Removes k) (cond clear (cond busy Loses Opening) Garbles)) Aside
+
+-- a framing pulse has M and is uncovered by every open reply
+abbrev pub clearIn : Pulse → Pulse → List Place → Bool
+clearIn e f2 l =
+    (e .main && not (anyIn (covers (e .tick .0)) (four l))) || (f2 .main && not (anyIn (covers (f2 .tick .0)) (four l)))
+
+pub record OutcomePost (f : Firsts) (on risk : Words) (i : ℕ) (e f2 : Pulse) (busy : Bool) (y : Outcome) : Type 0 where
+  pub at : (l : List Place) → f ≡ firstsOf l → AllEarly (f2 .tick .0) l → Marked on i (covers (e .tick .0)) l → Marked risk i (isPhantom (e .tick .0)) l
+      → y ≡ outcomeBy (e .main || f2 .main) (lastOn (isPhantom (e .tick .0)) l) (clearIn e f2 l) busy
+
+-- the place of the phantom that goes, or 4
+abbrev pub removedBy : Outcome → ℕ
+removedBy Aside = 4
+removedBy (Removes k) = k
+removedBy Garbles = 4
+removedBy Loses = 4
+removedBy Opening = 4
+
+abbrev pub isOpening : Outcome → Bool
+isOpening Aside = false
+isOpening (Removes k) = false
+isOpening Garbles = false
+isOpening Loses = false
+isOpening Opening = true
+
+abbrev pub phantomMore : Counts → Counts
+phantomMore c =
+    record { found = c .found; opened = c .opened; sidelobe = c .sidelobe; garbled = c .garbled; lost = c .lost; phantoms = wrapped (c .phantoms) 1 }
+
+abbrev pub countedBy : Outcome → Counts → Counts
+countedBy Aside c = tally wrapped Sidelobe 0 c
+countedBy (Removes k) c = phantomMore c
+countedBy Garbles c = tally wrapped Garbled 0 c
+countedBy Loses c = tally wrapped Lost 0 c
+countedBy Opening c = tally wrapped Opens 0 c

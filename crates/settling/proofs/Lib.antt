@@ -1,0 +1,3 @@
+pub mod FreshBits
+pub mod Hearing
+pub mod Dealing
