@@ -5,7 +5,7 @@ use mathlib.Core.Path.{_≡_, sym, ap, _∙_, subst}
 use mathlib.Core.List.{List, _++_, append-assoc}
 use lib.ListN.{length, length-append}
 use Rattle.rules.specs.declared.Reply.{Reply}
-use Rattle.rules.specs.declared.Counts.{Counts}
+use Rattle.rules.specs.declared.Machine.{Machine}
 use Rattle.rules.specs.Settings.{standard}
 use Rattle.rules.specs.Samples.{Trace, _⧺_}
 use Rattle.rules.specs.Machine.{State}
@@ -13,19 +13,17 @@ use Rattle.rules.specs.Records.{records}
 use Rattle.rules.specs.Calls.{fresh}
 use Rattle.rules.proofs.Joining.{assoc, fresh-join, handed-fresh, handed-done, after-known, records-append, records-length}
 use Rattle.machine.specs.Places.{machineOf}
-use Rattle.columns.specs.Columns.{Rows, Sized, machineAt}
 use Rattle.rules.specs.Buffers.{over-at}
 use Rattle.rules.proofs.Buffers.{over-at-more}
 use Rattle.packing.specs.declared.Planes.{Planes}
 use Rattle.front.specs.declared.words.Front.{Front}
 use Rattle.front.specs.declared.span.Span.{Span}
-use Rattle.blocks.specs.declared.Run.{Run}
-use Rattle.blocks.specs.declared.Stand.{Stand}
+use Rattle.blocks.specs.declared.Progress.{Progress}
 use Rattle.front.specs.Words.{padded, frontOf}
 use Rattle.front.specs.Post.{Low, AdvancePost, Spanned, SpanPost, Reads}
-use Rattle.blocks.specs.Steps.{stateAt, Bounded, Shows, Retired, Gives, WorkPost, Fed, Next, BlockPost, runOf}
+use Rattle.blocks.specs.Steps.{stateAt, Bounded, Shows, Fed, Next, BlockPost}
 use Rattle.rules.proofs.Answers.{standard-allowed}
-use Rattle.blocks.proofs.Working.{Works}
+use Rattle.blocks.proofs.Working.{Gives, Works}
 
 -- the replies that the block Q adds to those done
 block-done : (R Q : Trace) → length (R .flags) ≡ length (R .values)
@@ -36,8 +34,8 @@ block-done R Q a =
     ∙ ap {B = List Reply} (λ z. z ++ fresh standard R Q)
     (handed-done standard standard-allowed R ∙ ap (λ (s : State). s .done) (sym (after-known standard standard-allowed R Q a)))
 
-module _ (E : Type 0) (o : Run) (x : Planes) (r t : ℕ) (recent : List ℕ) (base : ℕ) (values : List ℕ) (b : List ℕ) (f : Front) (s : Span) (v : Retired) (b′ : List ℕ)
-    (ad : AdvancePost (o .front) x r f) (sp : SpanPost f s) (wk : Works E (o .machine) s r t recent base values (o .at) b v b′) where
+module _ (o : Progress) (x : Planes) (r t : ℕ) (recent : List ℕ) (base : ℕ) (values : List ℕ) (b : List ℕ) (f : Front) (s : Span) (m : Machine) (at : ℕ) (b′ : List ℕ)
+    (ad : AdvancePost (o .front) x r f) (sp : SpanPost f s) (wk : Works (o .machine) s r t recent base values (o .at) b m at b′) where
   module _ (T P Q : Trace) (b₀ : List ℕ) (fed : Fed T P b₀ o b) (lr : length (Q .flags) ≡ r) (low : Low (Q .flags) x) (nx : Next T P Q t recent base values b₀ b) where
     alike-R : length (T .flags ++ P .flags) ≡ length (T .values ++ P .values)
     alike-R = omega (arith, nx .alike, nx .alike-piece, length-append (T .flags) (P .flags), length-append (T .values) (P .values))
@@ -68,24 +66,23 @@ module _ (E : Type 0) (o : Run) (x : Planes) (r t : ℕ) (recent : List ℕ) (ba
     lengths : length (fresh standard T (P ⧺ Q)) ≡ length (fresh standard T P) + length (fresh standard (T ⧺ P) Q)
     lengths = ap length joined ∙ length-append (fresh standard T P) (fresh standard (T ⧺ P) Q)
 
-    worked : Gives (fresh standard (T ⧺ P) Q) (stateAt ((T ⧺ P) ⧺ Q) (t - 178)) (o .at) b v b′ × E
-    worked =
+    gives : Gives (o .machine) s r t recent base values (o .at) b ((T ⧺ P) ⧺ Q) (fresh standard (T ⧺ P) Q) m at b′
+    gives =
         let z : t - r - 178 ≡ length (T .flags ++ P .flags) - 178 = omega (arith, ticks-R) in
-        wk .result ((T ⧺ P) ⧺ Q) shows (omega (arith, ticks-R))
-        (fed .machine ∙ ap machineOf (sym (after-known standard standard-allowed (T ⧺ P) Q alike-R)) ∙ ap (λ (c : ℕ). machineOf (stateAt ((T ⧺ P) ⧺ Q) c)) (sym z))
-        (fresh standard (T ⧺ P) Q)
-        (ap (λ (c : ℕ). stateAt ((T ⧺ P) ⧺ Q) (c - 178) .done) (sym ticks-RQ)
-        ∙ block-done (T ⧺ P) Q alike-R
-        ∙ ap (λ (c : ℕ). stateAt ((T ⧺ P) ⧺ Q) c .done ++ fresh standard (T ⧺ P) Q) (sym z))
-        (omega (arith, fed .place, lengths, nx .room, nx .same))
+        wk .result ((T ⧺ P) ⧺ Q) (fresh standard (T ⧺ P) Q)
+        (record {
+          shows = shows;
+          within = omega (arith, ticks-R);
+          machine =
+              fed .machine ∙ ap machineOf (sym (after-known standard standard-allowed (T ⧺ P) Q alike-R)) ∙ ap (λ (c : ℕ). machineOf (stateAt ((T ⧺ P) ⧺ Q) c)) (sym z);
+          done =
+              ap (λ (c : ℕ). stateAt ((T ⧺ P) ⧺ Q) (c - 178) .done) (sym ticks-RQ)
+              ∙ block-done (T ⧺ P) Q alike-R
+              ∙ ap (λ (c : ℕ). stateAt ((T ⧺ P) ⧺ Q) c .done ++ fresh standard (T ⧺ P) Q) (sym z);
+          room = omega (arith, fed .place, lengths, nx .room, nx .same);
+        })
 
-    gives : Gives (fresh standard (T ⧺ P) Q) (stateAt ((T ⧺ P) ⧺ Q) (t - 178)) (o .at) b v b′
-    gives = worked .0
-
-    pub fed-known : E
-    fed-known = worked .1
-
-    pub fed-next : Fed T (P ⧺ Q) b₀ (record { front = f; machine = v .machine; at = v .at }) b′
+    pub fed-next : Fed T (P ⧺ Q) b₀ (record { front = f; machine = m; at = at }) b′
     fed-next =
         let e = append-assoc (T .flags) (P .flags) (Q .flags) in
         record {
@@ -102,19 +99,5 @@ module _ (E : Type 0) (o : Run) (x : Planes) (r t : ℕ) (recent : List ℕ) (ba
               ∙ ap (λ (z : List ℕ). over-at z 0 b₀) (sym (records-append (fresh standard T P) (fresh standard (T ⧺ P) Q)) ∙ ap records (sym joined));
         }
 
--- the same with the places as columns
-pub block-law : (x : Rows) (o : Stand) (p : Planes) (r t : ℕ) (recent : List ℕ) (base : ℕ) (values : List ℕ) (b : List ℕ) (f : Front) (s : Span) (x′ : Rows) (c′ : Counts) (e : ℕ) (b′ : List ℕ)
-    → AdvancePost (o .front) p r f → SpanPost f s → WorkPost x (o .counts) s r t recent base values (o .at) b x′ c′ e b′
-    → BlockPost x o p r t recent base values b x′ (record { front = f; counts = c′; at = e }) b′
-block-law x o p r t recent base values b f s x′ c′ e b′ ad sp wk =
-    record {
-      same = wk .keeps .same;
-      result = λ T P Q b₀ fed lr low nx.
-          let v : Retired = record { machine = machineAt x′ c′; at = e } in
-          let w : Works (Sized x′) (machineAt x (o .counts)) s r t recent base values (o .at) b v b′ =
-          record { keeps = wk .keeps; result = λ T sh le is l d room. let y = wk .result (fed .sized) T sh le is l d room in (y .gives, y .sized) } in
-          record {
-            fed = fed-next (Sized x′) (runOf x o) p r t recent base values b f s v b′ ad sp w T P Q b₀ (fed .fed) lr low nx;
-            sized = fed-known (Sized x′) (runOf x o) p r t recent base values b f s v b′ ad sp w T P Q b₀ (fed .fed) lr low nx;
-          };
-    }
+  pub block-law : BlockPost o x r t recent base values b (record { front = f; machine = m; at = at }) b′
+  block-law = record { same = wk .same; result = fed-next }

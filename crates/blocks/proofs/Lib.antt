@@ -1,4 +1,9 @@
+pub mod Leaving
+pub mod Stages
 pub mod Visiting
+pub mod Taking
 pub mod Working
 pub mod BlockLaws
+pub mod Waiting
 pub mod Staying
+pub mod Standing

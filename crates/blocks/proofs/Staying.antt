@@ -3,22 +3,13 @@ use Prim.Native.Nat.{ℕ, _+_, _-_, _≤_, _<_}
 use native.Mathlib.Omega.{arith}
 use mathlib.Core.Path.{_≡_, refl, sym, ap, _∙_, subst}
 use mathlib.Core.Bool.{Bool, true, false}
-use mathlib.Core.List.{List}
+use mathlib.Core.List.{List, [], _∷_}
 use lib.Dec.{eqb, leb}
 use lib.ListN.{length, getD}
 use borrow.Author.Tests.{eqb-true, leb-true, leb-false}
-use Rattle.rules.specs.declared.Machine.{Machine}
-use Rattle.rules.specs.declared.Counts.{Counts}
-use Rattle.rules.specs.Replies.{ended}
-use Rattle.machine.specs.Places.{test, placed, machineOf}
-use Rattle.columns.specs.Columns.{Rows, none, marksOf, wordAt, referenceAt, placeIn, placesIn, machineAt}
-use Rattle.rules.specs.declared.Reply.{Reply}
-use Rattle.rules.specs.Records.{records}
-use Rattle.rules.specs.Buffers.{over-at}
+use Rattle.rules.specs.declared.Place.{Place}
+use Rattle.rules.specs.declared.Places.{Places}
 use Rattle.rules.proofs.Truth.{and-left, and-right}
-use Rattle.rules.proofs.ListLaws.{filter-none}
-use Rattle.rules.proofs.Buffers.{over-at-nil}
-use Rattle.records.proofs.Handing.{all-open, retired-same}
 use Rattle.packing.specs.declared.Planes.{Planes}
 use Rattle.plane.specs.Words.{Holds, Slid}
 use Rattle.edges.specs.Detection.{Detected}
@@ -28,22 +19,22 @@ use Rattle.plane.proofs.PlaneLaws.{holds-none}
 use Rattle.edges.proofs.detection.LowTicks.{skipped}
 use Rattle.front.specs.declared.words.Front.{Front}
 use Rattle.front.specs.declared.span.Span.{Span}
-use Rattle.blocks.specs.declared.Stand.{Stand}
-use Rattle.front.specs.Post.{AdvancePost, SpanPost, TopPost, still}
-use Rattle.blocks.specs.Steps.{bare, Waits, Stays, BlockPost, runOf}
+use Rattle.front.specs.Post.{AdvancePost, SpanPost, TopPost, blank}
 use Rattle.front.proofs.Advancing.{advance-law}
 use Rattle.front.proofs.Spans.{span-law}
-use Rattle.blocks.proofs.Working.{Working, Late, Works, work-none as none-to-work, end-early, end-late, plain-end}
-use Rattle.blocks.proofs.BlockLaws.{fed-next}
+use Rattle.blocks.specs.declared.Progress.{Progress}
+use Rattle.blocks.specs.Steps.{flagless, noneDue, BlockPost}
+use Rattle.blocks.proofs.Working.{Works, end-none, end-works}
+use Rattle.blocks.proofs.BlockLaws.{block-law}
 
 -- ---- zero words
 
 zeroFront : Front
 zeroFront = record { a = 0; a1 = 0; p = 0; p1 = 0; n = 0; n1 = 0; l = 0; l1 = 0; k = 0; k1 = 0; h = 0; h1 = 0; e = 0; e1 = 0; e2 = 0; e3 = 0; m = 0; m1 = 0; m2 = 0; m3 = 0 }
 
-still-zero : (f : Front) → still f ≡ true → f ≡ zeroFront
+blank-zero : (f : Front) → blank f ≡ true → f ≡ zeroFront
 unfolding zeroFront
-still-zero f t-a =
+blank-zero f t-a =
     let e-a = eqb-true (f .a) 0 (and-left (eqb (f .a) 0) _ t-a) in
     let t-a1 = and-right (eqb (f .a) 0) _ t-a in
     let e-a1 = eqb-true (f .a1) 0 (and-left (eqb (f .a1) 0) _ t-a1) in
@@ -88,9 +79,9 @@ still-zero f t-a =
 zeroPlanes : Planes
 zeroPlanes = record { a = 0; p = 0; n = 0; m = 0 }
 
-bare-zero : (x : Planes) → bare x ≡ true → x ≡ zeroPlanes
+flagless-zero : (x : Planes) → flagless x ≡ true → x ≡ zeroPlanes
 unfolding zeroPlanes
-bare-zero x t-a =
+flagless-zero x t-a =
     let e-a = eqb-true (x .a) 0 (and-left (eqb (x .a) 0) _ t-a) in
     let t-p = and-right (eqb (x .a) 0) _ t-a in
     let e-p = eqb-true (x .p) 0 (and-left (eqb (x .p) 0) _ t-p) in
@@ -163,76 +154,26 @@ span-zero =
 
 -- ---- the machine has nothing to do
 
--- no reply is due once t ticks are taken
-pub record NoneDue (m : Machine) (t : ℕ) : Type 0 where
-  pub open-still : 179 ≤ t → test (ended (t - 179)) (m .places .p0) ≡ false
-
 top-zero : (r : ℕ) → TopPost 0 r 0
 top-zero r = record { below = omega arith; clear = λ i h. zero-bit i; same = λ i h l. refl }
 
--- nothing is handed out while the first reply is open
-late-none : (X : Type 0) (m : Machine) (s : Span) (r t : ℕ) (recent : List ℕ) (base : ℕ) (values : List ℕ) (at : ℕ) (b : List ℕ) (k : ℕ)
-    (w : Working X m s r t recent base values at b b m at 0 k) → test (ended (t - 179)) (m .places .p0) ≡ false
-    → Late X m s r t recent base values at b b m at k w (record { machine = m; at = at }) b
-unfolding records
-late-none X m s r t recent base values at b k w e =
-    record {
-      same = refl;
-      inside = λ h. h;
-      result = λ T l g S is q room.
-          let u = t - 179 in
-          let first : test (ended u) (placed (S .live) .p0) ≡ false = ap (λ (n : Machine). test (ended u) (n .places .p0)) (sym is) ∙ e in
-          let none′ = filter-none (ended u) (S .live) (all-open u (S .live) (q .order) first) in
-          record {
-            machine = is ∙ ap machineOf (sym (retired-same u S q first));
-            place = omega (arith, ap length none′);
-            buffer = sym (over-at-nil at b) ∙ ap (λ (l : List Reply). over-at (records l) at b) (sym none′);
-          };
-    }
-
--- no edge stands at the last r ticks of the span, and no reply is due
-work-none : (m : Machine) (s : Span) (r t : ℕ) (recent : List ℕ) (base : ℕ) (values : List ℕ) (at : ℕ) (b : List ℕ) → r ≤ 64 → TopPost (s .due) r 0 → NoneDue m t
-    → Works (Unit {0}) m s r t recent base values at b (record { machine = m; at = at }) b
-work-none m s r t recent base values at b h top waits = go (leb 179 t) refl
-  where
-    go : (c : Bool) → leb 179 t ≡ c → Works (Unit {0}) m s r t recent base values at b (record { machine = m; at = at }) b
-    go true e =
-        let l = leb-true 179 t e in
-        let w = none-to-work (Unit {0}) m s r t recent base values at b h top in
-        plain-end m s r t recent base values at b (record { machine = m; at = at }) b
-        (end-late (Unit {0}) m s r t recent base values at b b m at (64 - r) w (record { machine = m; at = at }) b l
-        (late-none (Unit {0}) m s r t recent base values at b (64 - r) w (waits .open-still l)))
-    go false e =
-        let w = none-to-work (Unit {0}) m s r t recent base values at b h top in
-        plain-end m s r t recent base values at b (record { machine = m; at = at }) b (end-early (Unit {0}) m s r t recent base values at b b m at (64 - r) w (leb-false 179 t e))
-
--- the first column, idle or open, has nothing due
-waits-none : (x : Rows) (c : Counts) (t : ℕ) → Waits (x .f1) t → NoneDue (machineAt x c) t
-unfolding placesIn placeIn
-waits-none x c t h = record { open-still = λ l. go (eqb (getD (x .f1) 0 0) none) refl l }
-  where
-    go : (d : Bool) → eqb (getD (x .f1) 0 0) none ≡ d → 179 ≤ t → test (ended (t - 179)) (placeIn (x .f1) (x .marks) (x .row) (x .level) 0) ≡ false
-    go true e l = rw e
-    go false e l = rw (e, h .open-still l (record { f1 = record { 0 = getD (x .f1) 0 0 }; marks = marksOf (getD (x .marks) 0 0); word = wordAt (x .row) 0; reference = referenceAt (x .row) (x .level) 0 }) refl)
+-- the four places, as a list
+listed : Places → List Place
+listed f = f .p0 ∷ (f .p1 ∷ (f .p2 ∷ (f .p3 ∷ [])))
 
 -- ---- the block
 
-pub stays-law : (x : Rows) (o : Stand) (p : Planes) (r t : ℕ) (recent : List ℕ) (base : ℕ) (values b : List ℕ) → r ≤ 64 → Stays (o .front) (x .f1) p t
-    → BlockPost x o p r t recent base values b x o b
-unfolding zeroSpan
-stays-law x o p r t recent base values b h s =
-    let f = still-zero (o .front) (s .words) in
-    let e = bare-zero p (s .planes) in
-    record {
-      same = refl;
-      result = λ T P Q b₀ fed lr low nx.
-          record {
-            fed =
-                fed-next (Unit {0}) (runOf x o) p r t recent base values b (o .front) zeroSpan (record { machine = machineAt x (o .counts); at = o .at }) b
-                (subst (λ (y : Planes). AdvancePost (o .front) y r (o .front)) (sym e) (subst (λ (g : Front). AdvancePost g zeroPlanes r g) (sym f) (advance-zero r h)))
-                (subst (λ (g : Front). SpanPost g zeroSpan) (sym f) span-zero)
-                (work-none (machineAt x (o .counts)) zeroSpan r t recent base values (o .at) b h (top-zero r) (waits-none x (o .counts) t (s .waits)))
-                T P Q b₀ (fed .fed) lr low nx;
-            sized = fed .sized;
-          };
-    }
+pub stays-law : (o : Progress) (p : Planes) (r t : ℕ) (recent : List ℕ) (base : ℕ) (values b : List ℕ) → r ≤ 64 → flagless p ≡ true → blank (o .front) ≡ true
+    → noneDue (o .machine .places .p0) t ≡ true → BlockPost o p r t recent base values b o b
+unfolding zeroSpan listed
+stays-law o p r t recent base values b h planes words due =
+    let f = blank-zero (o .front) words in
+    let e = flagless-zero p planes in
+    let ps = listed (o .machine .places) in
+    let c = o .machine .counts in
+    let w : Works (o .machine) zeroSpan r t recent base values (o .at) b (o .machine) (o .at) b =
+    end-works (o .machine) zeroSpan r t recent base values (o .at) b b ps c (o .at) (end-none (o .machine) zeroSpan r t recent base values (o .at) b ps c 0 refl h (top-zero r) refl) due in
+    block-law o p r t recent base values b (o .front) zeroSpan (o .machine) (o .at) b
+    (subst (λ (y : Planes). AdvancePost (o .front) y r (o .front)) (sym e) (subst (λ (g : Front). AdvancePost g zeroPlanes r g) (sym f) (advance-zero r h)))
+    (subst (λ (g : Front). SpanPost g zeroSpan) (sym f) span-zero)
+    w

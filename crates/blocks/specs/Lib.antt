@@ -1,2 +1,3 @@
 -- What the functions of a block answer.
 pub mod Steps
+pub mod Leaving

@@ -1,5 +1,5 @@
 // A block of up to 64 ticks: which of its edges the machine visits, the edges themselves, and when a block changes nothing.
-ghost use Prim.Native.Nat.{_+_};
+ghost use Prim.Native.Nat.{_+_, _<_};
 ghost use mathlib.Core.Path.{_≡_};
 ghost use mathlib.Core.Bool.{_&&_};
 ghost use Rattle.front.specs.Post.{valueOf, blank};

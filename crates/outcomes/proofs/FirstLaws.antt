@@ -1,13 +1,12 @@
 -- Tests of a place by the tick of its F1, and what becomes of a bracket.
 use Prim.Native.Nat.{ℕ, _+_, _-_, _/_, _%_, _^_, _≤_, _<_}
 use native.Mathlib.Omega.{arith}
-use mathlib.Core.Path.{_≡_, refl, sym, ap, ap₂, _∙_, subst}
+use mathlib.Core.Path.{_≡_, refl, sym, ap, _∙_}
 use mathlib.Core.Bool.{Bool, true, false, not, _&&_, _||_, cond, and-false}
-use mathlib.Core.List.{List}
 use lib.Dec.{leb, ltb, eqb}
 use lib.ListN.{getD}
 use lib.Ieee.{nan}
-use borrow.Author.Tests.{leb-true, leb-false, ltb-true, ltb-false, eqb-true, eqb-false, le-leb, lt-leb, lt-ltb, le-ltb, ne-eqb, eq-eqb}
+use borrow.Author.Tests.{leb-true, leb-false, ltb-true, ltb-false, eqb-true, le-leb, lt-leb, le-ltb, ne-eqb}
 use Rattle.rules.specs.declared.Tick.{Tick}
 use Rattle.rules.specs.declared.Reply.{Reply}
 use Rattle.rules.specs.declared.Estimate.the-variants.{Lone}
@@ -15,27 +14,25 @@ use Rattle.rules.specs.declared.Slot.{Slot}
 use Rattle.rules.specs.declared.Slot.the-variants.{Idle, Open}
 use Rattle.rules.specs.declared.Place.{Place}
 use Rattle.rules.specs.declared.Pulse.{Pulse}
-use Rattle.rules.specs.declared.Fate.{Fate}
 use Rattle.rules.specs.Replies.{f1, position, isPosition, isInside, covers, inside, ended, military}
-use Rattle.rules.specs.Machine.{openedBy, fateBy}
+use Rattle.rules.specs.Machine.{openedBy}
 use Rattle.replies.proofs.ReplyLaws.{within}
-use Rattle.machine.specs.Places.{test, testSlot, always, idle, any3, anyIn, openedIn, fateIn}
-use Rattle.settling.specs.Hearing.{firstSlot, firstOf}
+use Rattle.machine.specs.Places.{test, testSlot, always, idle, any3, openedIn}
 use Rattle.covering.specs.declared.Words.{Words}
-use Rattle.covering.specs.Marks.{four, Marked, AnyWord}
+use Rattle.covering.specs.Marks.{AnyWord}
 use Rattle.covering.proofs.Marking.{any-marked}
 use Rattle.plane.specs.Words.{bit}
 use Rattle.outcomes.specs.declared.Firsts.{Firsts}
-use Rattle.outcomes.specs.Fates.{firstsOf, Early, AllEarly, Tells, AnyTells, NonePost, HidesPost, AnyHidesPost, InsidePost, AnyInsidePost, FreePost, freeBy, freeOn, FatePost, OpenedPost}
+use Rattle.outcomes.specs.Fates.{firstSlot, firstOf, Early, Tells, AnyTells, NonePost, HidesPost, AnyHidesPost, InsidePost, AnyInsidePost, FreePost, BusyPost, OpenedPost}
 
 abbrev none : ℕ
 none = 4294967295
 
 -- a reply with F1 at q, of which nothing else matters
-abbrev some : ℕ → Reply
+abbrev some : Tick → Reply
 some q =
     record {
-      f1 = record { 0 = q };
+      f1 = q;
       marks = record { suspect = false; military = false; second = false; main = false };
       word = record { settled = 0; code = 0; unsure = 0 };
       reference = record { estimate = Lone nan; n = 0; s = 0 };
@@ -47,21 +44,21 @@ by-first : (p : Reply → Bool) (P : ℕ → Bool) → ((r : Reply) → p r ≡ 
 by-first p P same off q x e Idle h = e ∙ ap (λ (t : Tick). P (t .0)) h ∙ off
 by-first p P same off q x e (Open r) h = e ∙ ap (λ (t : Tick). P (t .0)) h ∙ sym (same r)
 
-pub over-law : (q u : Tick) (x : Bool) → u .0 < 2 ^ 32 → ((r : Reply) → f1 r ≡ q .0 → x ≡ ended (u .0) r) → Tells (ended (u .0)) q x
+pub over-law : (q u : Tick) (x : Bool) → u .0 < 2 ^ 32 → ((r : Reply) → r .f1 ≡ q → x ≡ ended (u .0) r) → Tells (ended (u .0)) q x
 unfolding ended
 over-law q u x lu h =
     record {
       at = λ y e.
-          by-first (ended (u .0)) (λ (n : ℕ). ltb (n + 205) (u .0)) (λ r. refl) (le-ltb (none + 205) (u .0) (omega arith)) q x (h (some (q .0)) refl) (y .slot) e;
+          by-first (ended (u .0)) (λ (n : ℕ). ltb (n + 205) (u .0)) (λ r. refl) (le-ltb (none + 205) (u .0) (omega arith)) q x (h (some q) refl) (y .slot) e;
     }
 
-pub military-law : (q u : Tick) (x : Bool) → u .0 < 2 ^ 32 → ((r : Reply) → f1 r ≡ q .0 → x ≡ military (u .0) r) → Tells (military (u .0)) q x
+pub military-law : (q u : Tick) (x : Bool) → u .0 < 2 ^ 32 → ((r : Reply) → r .f1 ≡ q → x ≡ military (u .0) r) → Tells (military (u .0)) q x
 unfolding military
 military-law q u x lu h =
     let off : (leb (none + 203) (u .0) && leb (u .0) (none + 205)) ≡ false = rw (lt-leb (none + 203) (u .0) (omega arith)) in
     record {
       at = λ y e.
-          by-first (military (u .0)) (λ (n : ℕ). leb (n + 203) (u .0) && leb (u .0) (n + 205)) (λ r. refl) off q x (h (some (q .0)) refl) (y .slot) e;
+          by-first (military (u .0)) (λ (n : ℕ). leb (n + 203) (u .0) && leb (u .0) (n + 205)) (λ r. refl) off q x (h (some q) refl) (y .slot) e;
     }
 
 pub any-law : (p : Reply → Bool) (f : Firsts) (a b c d x : Bool) → Tells p (f .a) a → Tells p (f .b) b → Tells p (f .c) c → Tells p (f .d) d → x ≡ (a || any3 b c d) → AnyTells p f x
@@ -230,18 +227,14 @@ module _ (f : Firsts) where
       flip true = refl
       flip false = refl
 
--- ---- the bracket
-
-pub fate-law : (f : Firsts) (covered main main2 : Bool) (w : Tick) (hid out : Bool) (y : Fate) → w .0 < 4294967296 → AnyHidesPost f (w .0) hid → NonePost (f .d) out
-    → y ≡ fateBy (main || main2) ((main && not covered) || (main2 && not hid)) (not out) → FatePost f covered main main2 w y
-unfolding fateIn
-fate-law f covered main main2 w hid out y lw ph po ey =
+pub busy-law : (f : Firsts) (x : Bool) → NonePost (f .d) x → BusyPost f (not x)
+busy-law f x p =
     record {
-      at = λ l e f2 k h ec em en ew.
-          let eh : hid ≡ anyIn (covers (f2 .tick .0)) (four l) = ph .at l k h ∙ ap (λ (t : Tick). anyIn (covers (t .0)) (four l)) (sym ew) in
-          let eo : not out ≡ test always (getD l 3 idle) = ap not (po .at (getD l 3 idle) (w .0) lw (k .d) (ap (λ (z : Firsts). z .d) h)) ∙ not-not (test always (getD l 3 idle)) in
-          ey ∙ (λ i. fateBy (sym em i || sym en i) ((sym em i && not (ec i)) || (sym en i && not (eh i))) (eo i));
+      at = λ l w lw k h.
+          ap not (p .at (getD l 3 idle) w lw (k .d) (ap (λ (z : Firsts). z .d) h)) ∙ not-not (test always (getD l 3 idle));
     }
+
+-- ---- the reply that opens
 
 pub opened-law : (f : Firsts) (on : Words) (i : ℕ) (e f2 : Pulse) (w : ℕ) (c s m : Bool) (y : Reply) → AnyWord on w → c ≡ bit w i → AnyInsidePost f on i (e .tick .0) s
     → AnyTells (military (e .tick .0)) f m → y ≡ openedBy c s m e f2 → OpenedPost f on i e f2 y

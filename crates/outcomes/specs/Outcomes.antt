@@ -7,13 +7,14 @@ use lib.Dec.{ltb}
 use Rattle.rules.specs.declared.Place.{Place}
 use Rattle.rules.specs.declared.Pulse.{Pulse}
 use Rattle.rules.specs.declared.Counts.{Counts}
+use Rattle.rules.specs.declared.Fate.{Fate}
 use Rattle.rules.specs.declared.Fate.the-variants.{Sidelobe, Garbled, Lost, Opens}
 use Rattle.rules.specs.Replies.{covers, isPhantom}
 use Rattle.rules.specs.Machine.{tally}
 use Rattle.replies.specs.Sums.{wrapped}
 use Rattle.machine.specs.Places.{anyIn}
 use Rattle.covering.specs.declared.Words.{Words}
-use Rattle.covering.specs.Marks.{four, Marked, lastOn}
+use Rattle.covering.specs.Marks.{four, Marked, lastIn, lastOn}
 use Rattle.outcomes.specs.declared.Firsts.{Firsts}
 use Rattle.outcomes.specs.declared.Outcome.{Outcome}
 use Rattle.outcomes.specs.declared.Outcome.the-variants.{Sidelobe as Aside, Removes, Garbled as Garbles, Lost as Loses, Opens as Opening}
@@ -28,10 +29,6 @@ abbrev pub clearIn : Pulse → Pulse → List Place → Bool
 clearIn e f2 l =
     (e .main && not (anyIn (covers (e .tick .0)) (four l))) || (f2 .main && not (anyIn (covers (f2 .tick .0)) (four l)))
 
-pub record OutcomePost (f : Firsts) (on risk : Words) (i : ℕ) (e f2 : Pulse) (busy : Bool) (y : Outcome) : Type 0 where
-  pub at : (l : List Place) → f ≡ firstsOf l → AllEarly (f2 .tick .0) l → Marked on i (covers (e .tick .0)) l → Marked risk i (isPhantom (e .tick .0)) l
-      → y ≡ outcomeBy (e .main || f2 .main) (lastOn (isPhantom (e .tick .0)) l) (clearIn e f2 l) busy
-
 -- the place of the phantom that goes, or 4
 abbrev pub removedBy : Outcome → ℕ
 removedBy Aside = 4
@@ -40,12 +37,25 @@ removedBy Garbles = 4
 removedBy Loses = 4
 removedBy Opening = 4
 
+pub record OutcomePost (f : Firsts) (on risk : Words) (i : ℕ) (e f2 : Pulse) (busy : Bool) (y : Outcome) : Type 0 where
+  -- a place that is left is one whose word marks the tick
+  pub last : removedBy y < 4 → removedBy y ≡ lastIn risk i
+  pub at : (l : List Place) → f ≡ firstsOf l → AllEarly (f2 .tick .0) l → Marked on i (covers (e .tick .0)) l → Marked risk i (isPhantom (e .tick .0)) l
+      → y ≡ outcomeBy (e .main || f2 .main) (lastOn (isPhantom (e .tick .0)) l) (clearIn e f2 l) busy
+
 abbrev pub isOpening : Outcome → Bool
 isOpening Aside = false
 isOpening (Removes k) = false
 isOpening Garbles = false
 isOpening Loses = false
 isOpening Opening = true
+
+-- the same of a bracket's fate
+abbrev pub isOpens : Fate → Bool
+isOpens Sidelobe = false
+isOpens Garbled = false
+isOpens Lost = false
+isOpens Opens = true
 
 abbrev pub phantomMore : Counts → Counts
 phantomMore c =

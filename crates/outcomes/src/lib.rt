@@ -152,7 +152,15 @@ pub enum Outcome {
 }
 
 // What becomes of the bracket with F1 at e, which is tick i of the block, and F2 at f2. `busy`: there is no place for a reply.
-pub fn outcome_of(f: Firsts, on: Words, risk: Words, i: u32, e: Pulse, f2: Pulse, busy: bool) -> Outcome
+pub fn outcome_of(
+    f: Firsts,
+    on: Words,
+    risk: Words,
+    i: u32,
+    e: Pulse,
+    f2: Pulse,
+    busy: bool,
+) -> Outcome
     requires { ⌜ i < 64 ⌝ }
     ensures { λ y. ⌜ OutcomePost f on risk i e f2 busy y ⌝ }
 {

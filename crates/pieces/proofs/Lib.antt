@@ -1,1 +1,3 @@
 pub mod Streaming
+pub mod Turns
+pub mod Handing

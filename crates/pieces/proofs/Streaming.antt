@@ -6,7 +6,6 @@ use mathlib.Core.Bool.{Bool, true, false}
 use mathlib.Core.List.{List, [], _∷_, _++_, append-nil}
 use lib.ListN.{length, getD, take, drop, replicate, length-append, length-take, length-drop, length-replicate, replicate-append-replicate}
 use lib.Seq.{getD-take, getD-drop, take-add, take-all, take-append-add, length-take-le}
-use lib.Ieee.{Float}
 use Rattle.rules.specs.declared.Reply.{Reply}
 use Rattle.rules.specs.Settings.{standard}
 use Rattle.rules.specs.Lists.{All}
@@ -27,18 +26,14 @@ use Rattle.packing.proofs.FlagBits.{A-bit, P-bit, N-bit, M-bit}
 use Rattle.plane.proofs.BitLaws.{zero-bit, bit-above}
 use Rattle.rules.specs.Buffers.{over-at}
 use Rattle.machine.specs.Places.{machineOf}
-use Rattle.rules.specs.declared.Places.{Places}
-use Rattle.columns.specs.Columns.{Rows, Sized, placesOf}
-use Rattle.lanes.specs.Post.{LoadPost}
-use Rattle.blocks.specs.declared.Run.{Run}
-use Rattle.blocks.specs.declared.Stand.{Stand}
+use Rattle.blocks.specs.declared.Progress.{Progress}
 use Rattle.front.specs.Words.{frontOf}
 use Rattle.front.specs.Post.{Low, Reads, valueOf}
-use Rattle.blocks.specs.Steps.{stateAt, Bounded, Fed, runOf, FedColumns, BlockPost}
-use Rattle.pieces.specs.Feeding.{upTo, Enters, Begins, BlocksPost, ColumnsPost, RunPost, FeedPost, Ends, DrainPost}
+use Rattle.blocks.specs.Steps.{stateAt, Bounded, Fed, BlockPost}
+use Rattle.pieces.specs.Feeding.{upTo, Enters, Begins, BlocksPost, FeedPost, Ends, DrainPost}
 use Rattle.rules.proofs.Answers.{standard-allowed, join-nothing}
 use Rattle.front.proofs.Spans.{value-law}
-use Rattle.blocks.proofs.Working.{over-nil, loaded}
+use Rattle.blocks.proofs.Working.{over-nil}
 
 abbrev nothing : Trace
 nothing = record { flags = []; values = [] }
@@ -49,7 +44,7 @@ fresh-nothing T a =
     append-same (handed standard T) (fresh standard T nothing) []
     (sym (handed-fresh standard standard-allowed T nothing a) ∙ ap (handed standard) (join-nothing T) ∙ sym (append-nil (handed standard T)))
 
-fed-nothing : (T : Trace) (o : Run) (b : List ℕ) → length (T .flags) ≡ length (T .values) → o .front ≡ frontOf (T .flags) → o .machine ≡ machineOf (stateAt T (length (T .flags) - 178))
+fed-nothing : (T : Trace) (o : Progress) (b : List ℕ) → length (T .flags) ≡ length (T .values) → o .front ≡ frontOf (T .flags) → o .machine ≡ machineOf (stateAt T (length (T .flags) - 178))
     → o .at ≡ 0 → Fed T nothing b o b
 fed-nothing T o b a f m p =
     let e = fresh-nothing T a in
@@ -141,7 +136,7 @@ low-block flags values n r x h p =
 
 -- ---- what the next block is to the piece
 
-module _ (T : Trace) (o : Run) (recent : List ℕ) (base : ℕ) (flags values b₀ : List ℕ) (g : Begins T o recent base flags values b₀) where
+module _ (T : Trace) (o : Progress) (recent : List ℕ) (base : ℕ) (flags values b₀ : List ℕ) (g : Begins T o recent base flags values b₀) where
   -- the trace up to tick n of the piece
   bounded : (n : ℕ) → n ≤ length flags → Bounded (T ⧺ upTo flags values n)
   bounded n h =
@@ -184,31 +179,31 @@ module _ (T : Trace) (o : Run) (recent : List ℕ) (base : ℕ) (flags values b�
         room = room;
       }
 
--- ---- the loop over a piece, with the places as columns
+-- ---- the loop over a piece
 
-module _ (x₀ : Rows) (o : Stand) (recent : List ℕ) (base : ℕ) (flags values b₀ : List ℕ) where
+module _ (o : Progress) (recent : List ℕ) (base : ℕ) (flags values b₀ : List ℕ) where
   -- i ticks of the piece are through
-  pub record Feeding (b : List ℕ) (x : Rows) (y : Stand) (i : ℕ) : Type 0 where
+  pub record Feeding (b : List ℕ) (y : Progress) (i : ℕ) : Type 0 where
     pub same : length b ≡ length b₀
     pub most : i ≤ length flags
-    pub state : Sized x₀ → (T : Trace) → Enters T (runOf x₀ o) recent base flags values b₀ → FedColumns T (upTo flags values i) b₀ x y b
+    pub state : (T : Trace) → Enters T o recent base flags values b₀ → Fed T (upTo flags values i) b₀ y b
 
-  pub feed-start : Feeding b₀ x₀ o 0
+  pub feed-start : Feeding b₀ o 0
   feed-start =
       record {
         same = refl;
         most = omega arith;
-        state = λ z T g. record { fed = fed-nothing T (runOf x₀ o) b₀ (g .alike) (g .front) (g .machine) (g .place); sized = z };
+        state = λ T g. fed-nothing T o b₀ (g .alike) (g .front) (g .machine) (g .place);
       }
 
-  pub feed-next : (b : List ℕ) (x : Rows) (y : Stand) (i r t : ℕ) (p : Planes) (x′ : Rows) (z : Stand) (b′ : List ℕ) → i + r ≤ length flags → t ≡ base + (i + r) → PackedPart flags i r p
-      → BlockPost x y p r t recent base values b x′ z b′ → Feeding b x y i → Feeding b′ x′ z (i + r)
-  feed-next b x y i r t p x′ z b′ h e k post f =
+  pub feed-next : (b : List ℕ) (y : Progress) (i r t : ℕ) (p : Planes) (z : Progress) (b′ : List ℕ) → i + r ≤ length flags → t ≡ base + (i + r) → PackedPart flags i r p
+      → BlockPost y p r t recent base values b z b′ → Feeding b y i → Feeding b′ z (i + r)
+  feed-next b y i r t p z b′ h e k post f =
       record {
         same = post .same ∙ f .same;
         most = h;
         state =
-            λ sz T g.
+            λ T g.
             let n = i + r in
             let P = upTo flags values i in
             let Q = block flags values i r in
@@ -216,8 +211,8 @@ module _ (x₀ : Rows) (o : Stand) (recent : List ℕ) (base : ℕ) (flags value
             let lv = length-take-le i values (omega (arith, g .alike-piece)) in
             let lq : length (take r (drop i flags)) ≡ r = length-take-le r (drop i flags) (omega (arith, length-drop i flags)) in
             let m = up-to-more flags values i r in
-            subst (λ (R : Trace). FedColumns T R b₀ x′ z b′) m
-            (post .result T P Q b₀ (f .state sz T g) lq (low-block flags values i r p h k)
+            subst (λ (R : Trace). Fed T R b₀ z b′) m
+            (post .result T P Q b₀ (f .state T g) lq (low-block flags values i r p h k)
             (record {
               alike = g .alike;
               alike-piece = lf ∙ sym lv;
@@ -231,59 +226,25 @@ module _ (x₀ : Rows) (o : Stand) (recent : List ℕ) (base : ℕ) (flags value
             }));
       }
 
-  pub feed-end : (b : List ℕ) (x : Rows) (y : Stand) (i : ℕ) → length flags ≤ i → Feeding b x y i → BlocksPost x₀ o recent base flags values b₀ x y b
-  feed-end b x y i h f =
+  pub feed-end : (b : List ℕ) (y : Progress) (i : ℕ) → length flags ≤ i → Feeding b y i → BlocksPost o recent base flags values b₀ y b
+  feed-end b y i h f =
       record {
         same = f .same;
         result =
-            λ sz T g.
+            λ T g.
             let a = take-all i flags h in
             let v = take-all i values (omega (arith, g .alike-piece)) in
             let e : upTo flags values i ≡ record { flags = flags; values = values } = λ j. record { flags = a j; values = v j } in
-            subst (λ (R : Trace). FedColumns T R b₀ x y b) e (f .state sz T g);
+            subst (λ (R : Trace). Fed T R b₀ y b) e (f .state T g);
       }
 
-  -- a piece that would pass the limit
-  pub columns-over : 32768 < base + length flags → ColumnsPost x₀ o recent base flags values b₀ x₀ o b₀
-  columns-over h = record { same = refl; result = λ z T g. absurd (omega (arith, g .limit)) }
-
-  pub columns-law : (x : Rows) (y : Stand) (b : List ℕ) → BlocksPost x₀ o recent base flags values b₀ x y b → ColumnsPost x₀ o recent base flags values b₀ x y b
-  columns-law x y b h = record { same = h .same; result = λ z T g. h .result z T (enters-piece T (runOf x₀ o) recent base flags values b₀ g) }
-
--- ---- the places become columns and then places again
-
-pub run-law : (o : Run) (recent : List ℕ) (base : ℕ) (flags values b : List ℕ) (f n w : List ℕ) (v : List Float) (on f′ n′ w′ : List ℕ) (v′ : List Float) (x : Rows) (y : Stand) (b′ : List ℕ) {g : Places}
-    → base + length flags < 65000 → Sized (record { f1 = f; marks = n; row = w; level = v; on = on }) → LoadPost f n w v (o .machine .places) f′ n′ w′ v′
-    → BlocksPost (record { f1 = f′; marks = n′; row = w′; level = v′; on = on }) (record { front = o .front; counts = o .machine .counts; at = o .at }) recent base flags values b x y b′
-    → g ≡ placesOf x → RunPost o recent base flags values b (record { front = y .front; machine = record { places = g; counts = y .counts }; at = y .at }) b′
-run-law o recent base flags values b f n w v on f′ n′ w′ v′ x y b′ {g} lt z load post is =
-    record {
-      same = post .same;
-      result = λ T e.
-          let x₀ : Rows = record { f1 = f′; marks = n′; row = w′; level = v′; on = on } in
-          let l = loaded (o .machine) T (length (T .flags) - 178) (omega (arith, e .ticks)) (e .machine) f n w v f′ n′ w′ v′ on load z in
-          let p = l .places in
-          let k = post .result (l .sized) T
-          (record {
-            front = e .front;
-            machine = (λ i. record { places = p i; counts = o .machine .counts }) ∙ e .machine;
-            place = e .place;
-            ticks = e .ticks;
-            alike = e .alike;
-            alike-piece = e .alike-piece;
-            bounded = e .bounded;
-            reads = e .reads;
-            room = e .room;
-          }) in
-          subst (λ (q : Places). Fed T (record { flags = flags; values = values }) b (record { front = y .front; machine = record { places = q; counts = y .counts }; at = y .at }) b′) (sym is) (k .fed);
-    }
-
 -- a piece that would pass the limit
-pub feed-over : (o : Run) (recent : List ℕ) (base : ℕ) (flags values b : List ℕ) → 32768 < base + length flags → FeedPost o recent base flags values b o b
-feed-over o recent base flags values b h = record { same = refl; result = λ T g. absurd (omega (arith, g .limit)) }
+pub feed-over : (o : Progress) (recent : List ℕ) (base : ℕ) (flags values b : List ℕ) → 32768 < base + length flags → FeedPost o recent base flags values b o b
+feed-over o recent base flags values b h = record { same = refl; past = λ k. (refl, refl); result = λ T g. absurd (omega (arith, g .limit)) }
 
-pub feed-law : (o : Run) (recent : List ℕ) (base : ℕ) (flags values b : List ℕ) (y : Run) (b′ : List ℕ) → RunPost o recent base flags values b y b′ → FeedPost o recent base flags values b y b′
-feed-law o recent base flags values b y b′ h = record { same = h .same; result = λ T g. h .result T (enters-piece T o recent base flags values b g) }
+pub feed-law : (o : Progress) (recent : List ℕ) (base : ℕ) (flags values b : List ℕ) (y : Progress) (b′ : List ℕ) → base + length flags ≤ 32768 → BlocksPost o recent base flags values b y b′
+    → FeedPost o recent base flags values b y b′
+feed-law o recent base flags values b y b′ k h = record { same = h .same; past = λ l. absurd (omega arith); result = λ T g. h .result T (enters-piece T o recent base flags values b g) }
 
 -- ---- the ticks past the end
 
@@ -299,7 +260,7 @@ take-zeros (suc n) (suc k) h = ap {B = List ℕ} (λ l. 0 ∷ l) (take-zeros n k
 zeros-up-to : (n k : ℕ) → n ≤ k → upTo (replicate k 0) (replicate k 0) n ≡ silence n
 zeros-up-to n k h = let z = take-zeros n k h in λ i. record { flags = z i; values = z i }
 
-module _ (T : Trace) (o : Run) (recent : List ℕ) (base : ℕ) (b₀ : List ℕ) (g : Ends T o recent base b₀) where
+module _ (T : Trace) (o : Progress) (recent : List ℕ) (base : ℕ) (b₀ : List ℕ) (g : Ends T o recent base b₀) where
   all-zero : (n : ℕ) → All (λ v. v ≤ 255) (replicate n 0)
   all-zero zero = tt
   all-zero (suc n) = (omega arith, all-zero n)
@@ -356,5 +317,5 @@ module _ (T : Trace) (o : Run) (recent : List ℕ) (base : ℕ) (b₀ : List ℕ
       most : (n : ℕ) → n ≤ length (replicate {A = ℕ} 448 0) → n ≤ 448
       most n h = omega (arith, length-replicate {A = ℕ} 448 0)
 
-pub drain-law : (o : Run) (recent : List ℕ) (base : ℕ) (b : List ℕ) (y : Run) (b′ : List ℕ) → RunPost o recent base (replicate 448 0) (replicate 448 0) b y b′ → DrainPost o recent base b y b′
+pub drain-law : (o : Progress) (recent : List ℕ) (base : ℕ) (b : List ℕ) (y : Progress) (b′ : List ℕ) → BlocksPost o recent base (replicate 448 0) (replicate 448 0) b y b′ → DrainPost o recent base b y b′
 drain-law o recent base b y b′ h = record { same = h .same; result = λ T g. h .result T (enters-silence T o recent base b g) }

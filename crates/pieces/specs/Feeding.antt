@@ -1,5 +1,5 @@
 -- What the functions of a piece answer, for the trace that their words and values belong to.
-use Prim.Native.Nat.{ℕ, _+_, _-_, _*_, _≤_}
+use Prim.Native.Nat.{ℕ, _+_, _-_, _*_, _≤_, _<_}
 use mathlib.Core.Bool.{cond}
 use mathlib.Core.List.{List}
 use mathlib.Core.Path.{_≡_}
@@ -55,8 +55,10 @@ pub record BlocksPost (o : Progress) (recent : List ℕ) (base : ℕ) (flags val
   pub same : length b′ ≡ length b
   pub result : (T : Trace) → Enters T o recent base flags values b → Fed T (record { flags = flags; values = values }) b y b′
 
+-- one that would pass the limit of a sweep is not fed
 pub record FeedPost (o : Progress) (recent : List ℕ) (base : ℕ) (flags values b : List ℕ) (y : Progress) (b′ : List ℕ) : Type 0 where
   pub same : length b′ ≡ length b
+  pub past : sweepLimit < base + length flags → (y ≡ o) × (b′ ≡ b)
   pub result : (T : Trace) → Begins T o recent base flags values b → Fed T (record { flags = flags; values = values }) b y b′
 
 -- ---- the ticks past the end

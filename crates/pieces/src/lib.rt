@@ -1,7 +1,10 @@
 // A piece of any number of ticks, block by block; and the ticks past the end of a sweep, which count as zero.
 ghost use Prim.Native.Nat.{_+_, _≤_, _<_};
 ghost use mathlib.Core.Path.{_≡_};
+ghost use mathlib.Core.List.{[], _∷_};
 ghost use lib.ListN.{length};
+ghost use Rattle.machine.specs.Places.{idle};
+ghost use Rattle.covering.specs.Marks.{four};
 ghost use Rattle.packing.specs.Packing.{PackedPart};
 ghost use Rattle.pieces.specs.Feeding.{blockLength, BlocksPost, FeedPost, DrainPost};
 use blocks::Progress;
@@ -86,6 +89,42 @@ fn block_length(n: usize) -> usize
     64
 }
 
+// ---- the four places as an array, and back
+
+// A place as it is, for another place in the array.
+fn kept(p: Place) -> Place
+    ensures { λ r. ⌜ r ≡ p ⌝ }
+{
+    p
+}
+
+fn idle_place() -> Place
+    ensures { λ r. ⌜ r ≡ idle ⌝ }
+{
+    Place { slot: Slot::Idle }
+}
+
+fn array_of(p: Places) -> [Place; 4]
+    ensures { λ r. ⌜ r ≡ p .p0 ∷ (p .p1 ∷ (p .p2 ∷ (p .p3 ∷ []))) ⌝ }
+{
+    let p0 = p.p0;
+    let p1 = p.p1;
+    let p2 = p.p2;
+    let p3 = p.p3;
+    [p0, p1, p2, p3]
+}
+
+fn places_of(p: [Place; 4]) -> Places
+    ensures { λ r. ⌜ r ≡ four p ⌝ }
+{
+    Places {
+        p0: p[0],
+        p1: p[1],
+        p2: p[2],
+        p3: p[3],
+    }
+}
+
 // The progress after the flags of a piece, which begins once `base` ticks are taken. The four places are changed where they stand: one goes by value into a
 // function and comes back. `from` shows that the visits end: the edges before tick `from` of the span are taken.
 fn feed_blocks(
@@ -102,8 +141,7 @@ fn feed_blocks(
     let n = flags.len();
     let mut front = o.front;
     let m = o.machine;
-    let p = m.places;
-    let mut places = [p.p0, p.p1, p.p2, p.p3];
+    let mut places = array_of(m.places);
     let mut counts = m.counts;
     let mut at = o.at;
     let mut done: usize = 0;
@@ -130,20 +168,36 @@ fn feed_blocks(
             let u = Tick(tick_of(t, i));
             if is_over(places[0], u) {
                 at = hand_one(places[0], u, out, at);
-                places = [places[1], places[2], places[3], Place { slot: Slot::Idle }];
+                places = [
+                    kept(places[1]),
+                    kept(places[2]),
+                    kept(places[3]),
+                    idle_place(),
+                ];
                 on = without_word(on, 0);
                 risk = without_word(risk, 0);
                 continue;
             }
             let e = pulse_at(recent, base, values, u, marked(s.main, i));
             if framed(s, i) {
-                let f2 = pulse_at(recent, base, values, Tick(u.0 + apart(s, i)), second_main(s, i));
+                let f2 = pulse_at(
+                    recent,
+                    base,
+                    values,
+                    Tick(u.0 + apart(s, i)),
+                    second_main(s, i),
+                );
                 let f = firsts_of(places);
                 let y = outcome_of(f, on, risk, i, e, f2, is_busy(f));
                 counts = counted(y, counts);
                 let k = removed_by(y);
                 if k < 4 {
-                    places = [places[behind(0, k)], places[behind(1, k)], places[behind(2, k)], Place { slot: Slot::Idle }];
+                    places = [
+                        kept(places[behind(0, k)]),
+                        kept(places[behind(1, k)]),
+                        kept(places[behind(2, k)]),
+                        idle_place(),
+                    ];
                     on = without_word(on, k);
                     risk = without_word(risk, k);
                     continue;
@@ -152,7 +206,9 @@ fn feed_blocks(
                     let reply = opened(f, on, i, e, f2);
                     let marks = reply.marks;
                     let j = free(f);
-                    places[j] = Place { slot: Slot::Open(reply) };
+                    places[j] = Place {
+                        slot: Slot::Open(reply),
+                    };
                     on = with_word(on, j, open_cover(i));
                     risk = with_word(risk, j, open_phantom(i, marks.suspect));
                 }
@@ -189,18 +245,18 @@ fn feed_blocks(
         }
         while !none_due(places[0], t) {
             at = hand_one(places[0], Tick(t - 179), out, at);
-            places = [places[1], places[2], places[3], Place { slot: Slot::Idle }];
+            places = [
+                kept(places[1]),
+                kept(places[2]),
+                kept(places[3]),
+                idle_place(),
+            ];
         }
     }
     Progress {
         front,
         machine: Machine {
-            places: Places {
-                p0: places[0],
-                p1: places[1],
-                p2: places[2],
-                p3: places[3],
-            },
+            places: places_of(places),
             counts,
         },
         at,

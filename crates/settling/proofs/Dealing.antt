@@ -1,12 +1,12 @@
 -- An edge that goes to one place or to all that cover it makes of the four what the rules say.
-use Prim.Native.Nat.{ℕ, zero, suc, _+_, _<_}
+use Prim.Native.Nat.{ℕ, zero, suc}
 use native.Mathlib.Omega.{arith}
 use mathlib.Core.Logic.{_⊎_, inl, inr}
-use mathlib.Core.Path.{_≡_, refl, sym, ap, _∙_, subst}
+use mathlib.Core.Path.{_≡_, refl, sym, ap, _∙_}
 use mathlib.Core.Bool.{Bool, true, false, not, _&&_, _||_, cond}
 use mathlib.Core.List.{List, [], _∷_}
 use lib.Dec.{leb, eqb}
-use lib.ListN.{length, getD, set}
+use lib.ListN.{length, getD, set, length-set}
 use Rattle.rules.specs.declared.Reply.{Reply}
 use Rattle.rules.specs.declared.Slot.{Slot}
 use Rattle.rules.specs.declared.Slot.the-variants.{Idle, Open}
@@ -17,11 +17,11 @@ use Rattle.rules.specs.Settings.{standard}
 use Rattle.rules.specs.Replies.{Verdict, f1, position, isPosition, near, level, agrees, covers, verdict, takes, bitOf, heardAt}
 use Rattle.rules.proofs.Truth.{impossible}
 use Rattle.replies.specs.Sums.{wrapped}
-use Rattle.machine.specs.Places.{test, testSlot, idle, any3, positionSlot, positionIn, hearSlotAt, hearAt, dealt}
+use Rattle.machine.specs.Places.{test, testSlot, idle, any3, positionSlot, positionIn, hearSlotAt, dealt}
 use Rattle.machine.proofs.PlaceLaws.{covers-in, deal-by}
 use Rattle.plane.specs.Words.{bit}
 use Rattle.covering.specs.declared.Words.{Words}
-use Rattle.covering.specs.Marks.{four, Marked, anyAt, AnyWord, twoOf, TwiceWord, whichOf}
+use Rattle.covering.specs.Marks.{four, Marked, AnyWord, twoOf, TwiceWord, whichOf}
 use Rattle.settling.specs.declared.Voices.{Voices}
 use Rattle.settling.specs.Deals.{hearing, turned, voicesBy, voicesIn, allTurned, OnePost, AllPost, DealPost}
 
@@ -213,3 +213,79 @@ module _ (l : List Place) (w : Words) (i : ℕ) (e : Pulse) (s : length l ≡ 4)
   pub deal-none-law : (x : ℕ) (q : Bool) → AnyWord w x → q ≡ bit x i → q ≡ false → DealPost l w i e l
   deal-none-law x q aw eq nq =
       record { at = λ k. ap four (none-of e (bit (w .a) i) (bit (w .b) i) (bit (w .c) i) (bit (w .d) i) l (sym (aw .at i) ∙ sym eq ∙ nq)) ∙ dealt-by k }
+
+-- ---- place by place
+
+-- place j hears the edge e if c, and stays if not
+pub record Turns (c : Bool) (j : ℕ) (e : Pulse) (own other : Bool) (l m : List Place) : Type 0 where
+  pub place : Place
+  pub did : c ≡ true → m ≡ set l j place
+  pub is : c ≡ true → test (covers (e .tick .0)) (getD l j idle) ≡ true → place ≡ hearing e own other (getD l j idle)
+  pub stays : c ≡ false → m ≡ l
+
+pub turns-did : (c : Bool) (j : ℕ) (e : Pulse) (own other o : Bool) (l m : List Place) (y : Place) → c ≡ true → m ≡ set l j y
+    → (test (covers (e .tick .0)) (getD l j idle) ≡ true → y ≡ hearing e own o (getD l j idle)) → o ≡ other → Turns c j e own other l m
+turns-did c j e own other o l m y h k f g =
+    record {
+      place = y;
+      did = λ z. k;
+      is = λ z q. f q ∙ ap (λ (b : Bool). hearing e own b (getD l j idle)) g;
+      stays = λ z. absurd (impossible (sym h ∙ z));
+    }
+
+pub turns-not : (c : Bool) (j : ℕ) (e : Pulse) (own other : Bool) (l m : List Place) → c ≡ false → m ≡ l → Turns c j e own other l m
+turns-not c j e own other l m h k =
+    record { place = idle; did = λ z. absurd (impossible (sym z ∙ h)); is = λ z. absurd (impossible (sym z ∙ h)); stays = λ z. k }
+
+turned-by : (c : Bool) (j : ℕ) (e : Pulse) (own other : Bool) (l₀ l m : List Place) → c ≡ test (covers (e .tick .0)) (getD l₀ j idle) → getD l j idle ≡ getD l₀ j idle
+    → Turns c j e own other l m → m ≡ turned c j (hearing e own other) l
+turned-by c j e own other l₀ l m ec same h = go c refl
+  where
+    go : (b : Bool) → c ≡ b → m ≡ turned c j (hearing e own other) l
+    go true z = did (test (covers (e .tick .0))) c j (hearing e own other) l₀ l m (h .place) ec same z (h .did z) (h .is z)
+    go false z = kept c j (hearing e own other) l m z (h .stays z)
+
+turns-size : (c : Bool) (j : ℕ) (e : Pulse) (own other : Bool) (l m : List Place) → Turns c j e own other l m → length m ≡ length l
+turns-size c j e own other l m h = go c refl
+  where
+    go : (b : Bool) → c ≡ b → length m ≡ length l
+    go true z = ap (length {A = Place}) (h .did z) ∙ length-set l j (h .place)
+    go false z = ap (length {A = Place}) (h .stays z)
+
+-- the edge e has gone to the places l, which are now m
+pub record Dealt (l : List Place) (w : Words) (i : ℕ) (e : Pulse) (m : List Place) : Type 0 where
+  pub size : length m ≡ length l
+  pub deal : DealPost l w i e m
+
+-- the edge goes to the four places, one after the other
+pub deals-four : (l m₁ m₂ m₃ m₄ : List Place) (w : Words) (i : ℕ) (e : Pulse) → length l ≡ 4 → (a b c d : Bool) → a ≡ bit (w .a) i → b ≡ bit (w .b) i → c ≡ bit (w .c) i → d ≡ bit (w .d) i
+    → (v : Voices) → v ≡ voicesIn (e .value) w i l → Turns a 0 e (v .a) (any3 (v .b) (v .c) (v .d)) l m₁ → Turns b 1 e (v .b) (any3 (v .a) (v .c) (v .d)) m₁ m₂
+    → Turns c 2 e (v .c) (any3 (v .a) (v .b) (v .d)) m₂ m₃ → Turns d 3 e (v .d) (any3 (v .a) (v .b) (v .c)) m₃ m₄ → Dealt l w i e m₄
+deals-four l m₁ m₂ m₃ m₄ w i e s a b c d ea eb ec ed v ev ta tb tc td =
+    let size = turns-size d 3 e (v .d) _ m₃ m₄ td ∙ turns-size c 2 e (v .c) _ m₂ m₃ tc ∙ turns-size b 1 e (v .b) _ m₁ m₂ tb ∙ turns-size a 0 e (v .a) _ l m₁ ta in
+    record {
+      size = size;
+      deal = deal-all-law l w i e s m₄
+    (record {
+      at = λ k.
+          let fa : Place → Place = hearing e (v .a) (any3 (v .b) (v .c) (v .d)) in
+          let fb : Place → Place = hearing e (v .b) (any3 (v .a) (v .c) (v .d)) in
+          let fc : Place → Place = hearing e (v .c) (any3 (v .a) (v .b) (v .d)) in
+          let e0 = turned-by a 0 e (v .a) (any3 (v .b) (v .c) (v .d)) l l m₁ (ea ∙ k .a) refl ta in
+          let e1 = turned-by b 1 e (v .b) (any3 (v .a) (v .c) (v .d)) l m₁ m₂ (eb ∙ k .b) (second-stays a b c fa fb fc l m₁ l l e0) tb in
+          let e2 = turned-by c 2 e (v .c) (any3 (v .a) (v .b) (v .d)) l m₂ m₃ (ec ∙ k .c) (third-stays a b c fa fb fc l m₁ m₂ l e0 e1) tc in
+          let e3 = turned-by d 3 e (v .d) (any3 (v .a) (v .b) (v .c)) l m₃ m₄ (ed ∙ k .d) (fourth-stays a b c fa fb fc l m₁ m₂ m₃ e0 e1 e2) td in
+          chain e a b c d v l m₁ m₂ m₃ m₄ e0 e1 e2 e3 ∙ (λ j. allTurned e (ea j) (eb j) (ec j) (ed j) (ev j) l);
+    });
+    }
+
+-- it goes to one place
+pub deals-one : (l : List Place) (w : Words) (i : ℕ) (e : Pulse) → length l ≡ 4 → (t x j : ℕ) (p q own : Bool) (y : Place) → TwiceWord w t → p ≡ bit t i → p ≡ false → AnyWord w x → q ≡ bit x i
+    → q ≡ true → j ≡ whichOf (bit (w .b) i) (bit (w .c) i) (bit (w .d) i) → own ≡ (true && test (agrees standard (e .value)) (getD l j idle))
+    → (test (covers (e .tick .0)) (getD l j idle) ≡ true → y ≡ hearing e own false (getD l j idle)) → Dealt l w i e (set l j y)
+deals-one l w i e s t x j p q own y tw ep hp aw eq hq ej eo ey =
+    record { size = length-set l j y; deal = deal-one-law l w i e s (set l j y) t x j p q tw ep hp aw eq hq ej (one-law l (set l j y) j e own y eo ey refl) }
+
+-- it goes to none
+pub deals-none : (l : List Place) (w : Words) (i : ℕ) (e : Pulse) → length l ≡ 4 → (x : ℕ) (q : Bool) → AnyWord w x → q ≡ bit x i → q ≡ false → Dealt l w i e l
+deals-none l w i e s x q aw eq hq = record { size = refl; deal = deal-none-law l w i e s x q aw eq hq }

@@ -1,9 +1,9 @@
--- What an edge makes of a reply that covers it: the laws behind `covering`, `taken_in` and `hear`.
+-- What an edge makes of a reply that covers it: the laws behind `position_of`, `taken_in` and `hear`.
 use Prim.Native.Nat.{ℕ, zero, suc, _+_, _-_, _*_, _/_, _%_, _^_, _≤_, _<_}
 use native.Mathlib.Omega.{arith}
 use mathlib.Core.Path.{_≡_, refl, sym, ap, _∙_}
 use mathlib.Core.Bool.{Bool, true, false, _&&_, cond}
-use mathlib.Core.List.{List, [], _∷_}
+use mathlib.Core.List.{[], _∷_}
 use lib.Dec.{leb, eqb}
 use lib.ListN.{getD}
 use lib.Ieee.{Float, nan}
@@ -58,8 +58,8 @@ near-by q u h = (
 )
 
 -- with d for u + 1 - q in 64 bits
-pub covering-law : (q u d : ℕ) → q < 2 ^ 32 → u < 2 ^ 32 → d < 2 ^ 64 → (d + q) % 2 ^ 64 ≡ u + 1 → coversFrom q u ≡ true → d % 256 / 12 ≡ position q u
-covering-law q u d lq lu ld e h =
+pub position-law : (q u d : ℕ) → q < 2 ^ 32 → u < 2 ^ 32 → d < 2 ^ 64 → (d + q) % 2 ^ 64 ≡ u + 1 → coversFrom q u ≡ true → d % 256 / 12 ≡ position q u
+position-law q u d lq lu ld e h =
     let n = near-by q u h in
     let y : d ≡ u + 1 - q = omega (arith, n .0) in
     let z : d % 256 / 12 ≡ (u + 1 - q) / 12 = omega (arith, n .1, y) in
@@ -109,15 +109,19 @@ unfolding average
 both true k e x r = refl
 both false k e x r = refl
 
+covers-both : (r : Reply) (u : ℕ) → coversFrom (f1 r) u ≡ covers u r
+unfolding coversFrom covers
+covers-both r u = refl
+
 -- with k for the position, g for the digit that says whether the edge settles it, a for the word after and b for the reference after
 pub heard-law : (r : Reply) (e : Pulse) (own other : Bool) (k : ℕ) → (coversFrom (f1 r) (e .tick .0) ≡ true → k ≡ position (f1 r) (e .tick .0)) → (p : ℕ) → p ≡ placeOf k → (g : ℕ)
     → g ≡ freshIn (r .word .settled) p → (code sure : Bool) → code ≡ verdict (e .main) own other .code → sure ≡ verdict (e .main) own other .confidence → (c n h : ℕ)
     → c ≡ cond code ((g * 2 ^ p) % 2 ^ 16) 0 → n ≡ cond sure 0 ((g * 2 ^ p) % 2 ^ 16) → h ≡ cond sure g 0 → (a : Word)
     → ((t : Bool) (q : ℕ) (y : Verdict) → (g * 2 ^ p) % 2 ^ 16 ≡ cond t (2 ^ bitOf q) 0 → c ≡ cond (y .code) ((g * 2 ^ p) % 2 ^ 16) 0 → n ≡ cond (y .confidence) 0 ((g * 2 ^ p) % 2 ^ 16)
     → a ≡ cond t (settle wrapped q y (r .word)) (r .word)) → (b : Reference) → b ≡ cond (eqb h 1) (average wrapped (r .reference) (e .value)) (r .reference)
-    → coversFrom (f1 r) (e .tick .0) ≡ true
-    → record { f1 = r .f1; marks = r .marks; word = a; reference = b } ≡ hearBy (position (f1 r) (e .tick .0)) e (verdict (e .main) own other) r
-heard-law r e own other k ek p ep g eg code sure ec es c n h ed en eh a ea b eb z =
+    → covers (e .tick .0) r ≡ true → record { f1 = r .f1; marks = r .marks; word = a; reference = b } ≡ hearBy (position (f1 r) (e .tick .0)) e (verdict (e .main) own other) r
+heard-law r e own other k ek p ep g eg code sure ec es c n h ed en eh a ea b eb t =
+    let z : coversFrom (f1 r) (e .tick .0) ≡ true = covers-both r (e .tick .0) ∙ t in
     let K = position (f1 r) (e .tick .0) in
     let T = takes K (r .word .settled) in
     let W = verdict (e .main) own other in
@@ -139,12 +143,8 @@ heard-law r e own other k ek p ep g eg code sure ec es c n h ed en eh a ea b eb 
 pub idle-law : (k : ℕ) (e : Pulse) (x : Verdict) (p : Place) → p .slot ≡ Idle → record { slot = Idle } ≡ hearAt wrapped k e x p
 idle-law k e x p h = λ i. record { slot = hearSlotAt wrapped k e x (sym h i) }
 
-covers-both : (r : Reply) (u : ℕ) → coversFrom (f1 r) u ≡ covers u r
-unfolding coversFrom covers
-covers-both r u = refl
-
-pub open-law : (u : ℕ) (e : Pulse) (x : Verdict) (p : Place) (r : Reply) → p .slot ≡ Open r → (y : Reply) → (coversFrom (f1 r) u ≡ true → y ≡ hearBy (position (f1 r) u) e x r)
+pub open-law : (u : ℕ) (e : Pulse) (x : Verdict) (p : Place) (r : Reply) → p .slot ≡ Open r → (y : Reply) → (covers u r ≡ true → y ≡ hearBy (position (f1 r) u) e x r)
     → test (covers u) p ≡ true → record { slot = Open y } ≡ hearAt wrapped (positionIn u p) e x p
 open-law u e x p r h y ey t =
-    let z : coversFrom (f1 r) u ≡ true = covers-both r u ∙ sym (ap (testSlot (covers u)) h) ∙ t in
+    let z : covers u r ≡ true = sym (ap (testSlot (covers u)) h) ∙ t in
     (λ i. record { slot = Open (ey z i) }) ∙ (λ i. record { slot = hearSlotAt wrapped (positionSlot u (sym h i)) e x (sym h i) })

@@ -1,15 +1,11 @@
 -- What an edge makes of a reply that covers it.
 use Prim.Native.Nat.{ℕ, _+_, _-_, _*_, _/_, _%_, _^_}
-use mathlib.Core.Bool.{Bool, cond}
+use mathlib.Core.Bool.{cond}
 use lib.Dec.{eqb}
 use lib.Ieee.{Float}
-use Rattle.rules.specs.declared.Tick.{Tick}
 use Rattle.rules.specs.declared.Estimate.{Estimate}
 use Rattle.rules.specs.declared.Estimate.the-variants.{Lone, Average}
 use Rattle.rules.specs.declared.Reply.{Reply}
-use Rattle.rules.specs.declared.Slot.{Slot}
-use Rattle.rules.specs.declared.Slot.the-variants.{Idle, Open}
-use Rattle.rules.specs.declared.Place.{Place}
 use Rattle.rules.specs.declared.Pulse.{Pulse}
 use Rattle.rules.specs.Replies.{Verdict, takes, heardAt}
 use Rattle.replies.specs.Sums.{wrapped}

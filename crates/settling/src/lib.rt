@@ -63,7 +63,6 @@ pub fn voices_of(p: [Place; 4], on: Words, i: u32, v: u8) -> Voices
     }
 }
 
-
 // ---- settling
 
 // The position of a reply with F1 at q that covers u, where one does.

@@ -1,29 +1,29 @@
--- `stays` says yes only where planes and words are 0 and nothing is due.
-use mathlib.Core.Path.{sym, _∙_}
-use borrow.Author.Tests.{not-false}
-use Rattle.rules.proofs.Truth.{impossible}
+-- `blocks::stays` meets its contract.
+use borrow.Author.Tests.{not-true, not-false}
+use Rattle.blocks.proofs.Waiting.{first-not, second-not, third}
+use borrow.Author.Needs.{needs}
 use Rattle.blocks.proofs.stays.Statement.{statement}
 use Rattle.blocks.proofs.stays.Tie as tie
 
-is-bare-requires : tie.Need-is-bare-requires
-is-bare-requires c κs = tt
+is-flagless-requires : tie.Need-is-flagless-requires
+is-flagless-requires c κs = search needs
 
 returns : tie.Need-returns
-returns c = λ e. absurd (impossible (sym e))
+returns c = first-not _ _ _ (c .before .is-flagless .ensures) (not-true _ (c .if1 .taken))
 
-is-still-requires : tie.Need-is-still-requires
-is-still-requires c κs = tt
+is-blank-requires : tie.Need-is-blank-requires
+is-blank-requires c κs = search needs
 
 returns-2 : tie.Need-returns-2
-returns-2 c = λ e. absurd (impossible (sym e))
+returns-2 c = second-not _ _ _ _ _ (c .before .before .before .is-flagless .ensures) (not-false _ (c .before .before .if1 .left)) (c .before .is-blank .ensures) (not-true _ (c .if2 .taken))
 
 none-due-requires : tie.Need-none-due-requires
-none-due-requires c κs = tt
+none-due-requires c κs = search needs
 
 returns-3 : tie.Need-returns-3
-returns-3 c = λ e. record { planes = sym (c .before .before .before .before .is-bare .ensures) ∙ not-false _ (c .before .before .before .if1 .left); words = sym (c .before .before .is-still .ensures) ∙ not-false _ (c .before .if2 .left); waits = c .none-due .ensures e }
+returns-3 c = third _ _ _ _ _ _ (c .before .before .before .before .is-flagless .ensures) (not-false _ (c .before .before .before .if1 .left)) (c .before .before .is-blank .ensures) (not-false _ (c .before .if2 .left)) (c .none-due .ensures)
 
 pub stays-spec : {M : Type 1} → statement M
 stays-spec =
     tie.close
-    (tie.spec is-bare-requires returns is-still-requires returns-2 none-due-requires returns-3)
+    (tie.spec is-flagless-requires returns is-blank-requires returns-2 none-due-requires returns-3)

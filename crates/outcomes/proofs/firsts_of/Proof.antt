@@ -1,43 +1,32 @@
+-- `outcomes::firsts_of` meets its contract.
 use borrow.Author.Needs.{needs}
 use Rattle.outcomes.proofs.firsts_of.Statement.{statement}
 use Rattle.outcomes.proofs.firsts_of.Tie as tie
-use Rattle.outcomes.proofs.firsts_of.Reads as reads
-use Rattle.outcomes.proofs.firsts_of.Lts as lts
-use Rattle.settling.proofs.first_of.Reads as first-of-reads
 
--- src/lib.rt:33:21
 array-copy-out-first-of : tie.Need-array-copy-out-first-of
 array-copy-out-first-of c = search needs
 
--- src/lib.rt:33:12
 first-of-requires : tie.Need-first-of-requires
 first-of-requires c κs = search needs
 
--- src/lib.rt:34:21
 array-copy-out-first-of-2 : tie.Need-array-copy-out-first-of-2
 array-copy-out-first-of-2 c = search needs
 
--- src/lib.rt:34:12
 first-of-requires-2 : tie.Need-first-of-requires-2
 first-of-requires-2 c κs = search needs
 
--- src/lib.rt:35:21
 array-copy-out-first-of-3 : tie.Need-array-copy-out-first-of-3
 array-copy-out-first-of-3 c = search needs
 
--- src/lib.rt:35:12
 first-of-requires-3 : tie.Need-first-of-requires-3
 first-of-requires-3 c κs = search needs
 
--- src/lib.rt:36:21
 array-copy-out-first-of-4 : tie.Need-array-copy-out-first-of-4
 array-copy-out-first-of-4 c = search needs
 
--- src/lib.rt:36:12
 first-of-requires-4 : tie.Need-first-of-requires-4
 first-of-requires-4 c κs = search needs
 
--- src/lib.rt:29:1
 returns : tie.Need-returns
 returns c = λ i. record { a = c .before .before .before .before .before .before .first-of .ensures i; b = c .before .before .before .before .first-of2 .ensures i; c = c .before .before .first-of3 .ensures i; d = c .first-of4 .ensures i }
 

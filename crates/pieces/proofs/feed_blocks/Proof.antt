@@ -1,86 +1,1144 @@
--- `feed_blocks` takes a piece block by block. The invariant: i ticks of it are through.
+-- `feed_blocks` takes a piece block by block, and of each block the ticks to visit, lowest first.
+use borrow.Author.Needs.{needs}
 use Prim.Native.Nat.{_-_}
 use native.Mathlib.Omega.{arith}
-use mathlib.Core.Path.{refl}
-use lib.ListN.{length}
-use Rattle.pieces.proofs.Streaming.{Feeding, feed-start, feed-next, feed-end}
+use lib.ListN.{length, getD}
+use mathlib.Core.Path.{_≡_, refl, sym, ap, _∙_, subst}
+use mathlib.Core.Bool.{Bool, true, false}
+use mathlib.Core.List.{List, [], _∷_}
+use borrow.Author.Tests.{not-true, not-false}
+use Rattle.rules.specs.declared.Place.{Place}
+use Rattle.rules.specs.declared.Tick.{Tick}
+use Rattle.rules.specs.Replies.{ended}
+use Rattle.machine.specs.Places.{test, idle}
+use Rattle.covering.proofs.Starting.{all-marked}
 use Rattle.blocks.proofs.Staying.{stays-law}
+use Rattle.blocks.proofs.BlockLaws.{block-law}
+use Rattle.blocks.specs.Leaving.{machineIn}
+use Rattle.blocks.proofs.Working.{Working, work-start, work-over, work-less, work-taken, end-start, end-none, end-works, first-from}
+use Rattle.pieces.proofs.Streaming.{Feeding, feed-start, feed-next, feed-end}
+use Rattle.pieces.proofs.Turns.{openCount, turnsLeft, turn-taken, turn-over, turn-less, hand-less, four-places}
+use Prim.Native.Nat.{ℕ, _+_}
+use borrow.Author.Tests.{eqb-true}
+use Rattle.rules.specs.declared.Places.{Places}
+use Rattle.rules.specs.declared.Pulse.{Pulse}
+use Rattle.machine.specs.Places.{any3}
+use Rattle.front.specs.Post.{bracketIn}
+use Rattle.settling.proofs.Dealing.{either, turns-did, turns-not, Dealt, deals-four, deals-one, deals-none}
+use Rattle.blocks.specs.declared.Progress.{Progress}
+use Rattle.blocks.proofs.Waiting.{all-three, both, due-over}
+use Rattle.blocks.proofs.Taking.{framed-shut, framed-opens, framed-as}
+use Rattle.blocks.proofs.Standing.{pulse-as, second-as, Stood, stood-plain, stood-framed}
+use Rattle.pieces.specs.Feeding.{BlocksPost}
+use lib.ListN.{set}
+use Rattle.pieces.proofs.Handing.{Hands, hands-none, hands-more}
 use Rattle.pieces.proofs.feed_blocks.Statement.{statement}
 use Rattle.pieces.proofs.feed_blocks.Tie as tie
 
+abbrev Inv-loop2 : tie.InvT-loop2
+Inv-loop2 recent base flags values out₀ n front places₀ counts₀ at₀ done r t s due on₀ risk₀ todo₀ from₀ out places counts at on risk todo from =
+    Working (machineIn places₀ counts₀) s r t recent base values at₀ out₀ out places on risk counts at todo from
+
+abbrev μ-loop2 : tie.MeasureT-loop2
+μ-loop2 recent base flags values out₀ n front places₀ counts₀ at₀ done r t s due on₀ risk₀ todo₀ from₀ out places counts at on risk todo from =
+    turnsLeft from places risk
+
+abbrev Inv-loop3 : tie.InvT-loop3
+Inv-loop3 recent base flags values out₀ n front places₀ counts at₀ done r t due todo from out places at =
+    Hands r t recent base values counts out₀ places₀ at₀ out places at
+
+abbrev μ-loop3 : tie.MeasureT-loop3
+μ-loop3 recent base flags values out₀ n front places₀ counts at₀ done r t due todo from out places at =
+    openCount places
+
 abbrev Inv-loop : tie.InvT-loop
-Inv-loop f1₀ marks₀ row₀ level₀ on₀ recent base flags values out₀ n run₀ i₀ f1 marks row level on out run i = Feeding (record { f1 = f1₀; marks = marks₀; row = row₀; level = level₀; on = on₀ }) run₀ recent base flags values out₀ out (record { f1 = f1; marks = marks; row = row; level = level; on = on }) run i
+Inv-loop recent base flags values out₀ n front₀ places₀ counts₀ at₀ done₀ out front places counts at done =
+    (length places ≡ 4) × Feeding (record { front = front₀; machine = machineIn places₀ counts₀; at = at₀ }) recent base flags values out₀ out (record { front = front; machine = machineIn places counts; at = at }) done
 
 abbrev μ-loop : tie.MeasureT-loop
-μ-loop f1₀ marks₀ row₀ level₀ on₀ recent base flags values out₀ n run₀ i₀ f1 marks row level on out run i = length flags - i
+μ-loop recent base flags values out₀ n front₀ places₀ counts₀ at₀ done₀ out front places counts at done =
+    length flags - done
 
-loop-holds : tie.Need-loop-holds Inv-loop μ-loop
-loop-holds c = feed-start (record { f1 = c .before .before .before .args .f1 .now; marks = c .before .before .before .args .marks .now; row = c .before .before .before .args .row .now; level = c .before .before .before .args .level .now; on = c .before .before .before .args .on .now }) (c .before .before .before .args .o) (c .before .before .before .args .recent .now) (c .before .before .before .args .base) (c .before .before .before .args .flags .now) (c .before .before .before .args .values .now) (c .before .before .before .args .out .now)
+array-of-requires : tie.Need-array-of-requires Inv-loop2 μ-loop2 Inv-loop3 μ-loop3 Inv-loop μ-loop
+array-of-requires c κs = search needs
 
-sub-block-length : tie.Need-sub-block-length Inv-loop μ-loop
-sub-block-length c = omega arith
+loop-holds : tie.Need-loop-holds Inv-loop2 μ-loop2 Inv-loop3 μ-loop3 Inv-loop μ-loop
+loop-holds c =
+    let array-of = c .before .array-of in
+    let args = c .before .before .before .before .before .before .before .args in
+    (ap (length {A = Place}) (array-of .ensures),
+    feed-start (record { front = args .o .front; machine = machineIn (array-of .result) (args .o .machine .counts); at = args .o .at }) (args .recent .now) (args .base) (args .flags .now) (args .values .now) (args .out .now))
 
-block-length-requires : tie.Need-block-length-requires Inv-loop μ-loop
-block-length-requires c κs = tt
+sub-block-length : tie.Need-sub-block-length Inv-loop2 μ-loop2 Inv-loop3 μ-loop3 Inv-loop μ-loop
+sub-block-length c = search needs
 
-packed-requires : tie.Need-packed-requires Inv-loop μ-loop
-packed-requires c κs = omega (arith, c .block-length .ensures .1)
+block-length-requires :
+    tie.Need-block-length-requires Inv-loop2 μ-loop2 Inv-loop3 μ-loop3 Inv-loop μ-loop
+block-length-requires c κs = search needs
 
-add-next : tie.Need-add-next Inv-loop μ-loop
-add-next c = omega arith
+packed-requires : tie.Need-packed-requires Inv-loop2 μ-loop2 Inv-loop3 μ-loop3 Inv-loop μ-loop
+packed-requires c κs = search needs
 
-cast-t : tie.Need-cast-t Inv-loop μ-loop
-cast-t c = omega arith
+add-done : tie.Need-add-done Inv-loop2 μ-loop2 Inv-loop3 μ-loop3 Inv-loop μ-loop
+add-done c = search needs
 
-add-t : tie.Need-add-t Inv-loop μ-loop
-add-t c = omega arith
+cast-t : tie.Need-cast-t Inv-loop2 μ-loop2 Inv-loop3 μ-loop3 Inv-loop μ-loop
+cast-t c = search needs
 
-stays-requires : tie.Need-stays-requires Inv-loop μ-loop
-stays-requires c κs = tt
+add-t : tie.Need-add-t Inv-loop2 μ-loop2 Inv-loop3 μ-loop3 Inv-loop μ-loop
+add-t c = search needs
 
-loop-less : tie.Need-loop-less Inv-loop μ-loop
-loop-less c = omega (arith, c .before .before .before .before .block-length .ensures .1 .1 .0, c .before .before .before .before .block-length .ensures .1 .1 .1 (omega arith), c .before .before .before .before .before .before .loop .inv .most)
+array-copy-out-stays :
+    tie.Need-array-copy-out-stays Inv-loop2 μ-loop2 Inv-loop3 μ-loop3 Inv-loop μ-loop
+array-copy-out-stays c = search needs
 
-loop-again : tie.Need-loop-again Inv-loop μ-loop
-loop-again c = feed-next (record { f1 = c .before .before .before .before .before .before .before .before .before .before .args .f1 .now; marks = c .before .before .before .before .before .before .before .before .before .before .args .marks .now; row = c .before .before .before .before .before .before .before .before .before .before .args .row .now; level = c .before .before .before .before .before .before .before .before .before .before .args .level .now; on = c .before .before .before .before .before .before .before .before .before .before .args .on .now }) (c .before .before .before .before .before .before .before .before .before .before .args .o) (c .before .before .before .before .before .before .before .before .before .before .args .recent .now) (c .before .before .before .before .before .before .before .before .before .before .args .base) (c .before .before .before .before .before .before .before .before .before .before .args .flags .now) (c .before .before .before .before .before .before .before .before .before .before .args .values .now) (c .before .before .before .before .before .before .before .before .before .before .args .out .now) (c .before .before .before .before .before .before .loop .out) (record { f1 = c .before .before .before .before .before .before .loop .f1; marks = c .before .before .before .before .before .before .loop .marks; row = c .before .before .before .before .before .before .loop .row; level = c .before .before .before .before .before .before .loop .level; on = c .before .before .before .before .before .before .loop .on }) (c .before .before .before .before .before .before .loop .run) (c .before .before .before .before .before .before .loop .i) (c .before .before .before .before .block-length .result) _ _ (record { f1 = c .before .before .before .before .before .before .loop .f1; marks = c .before .before .before .before .before .before .loop .marks; row = c .before .before .before .before .before .before .loop .row; level = c .before .before .before .before .before .before .loop .level; on = c .before .before .before .before .before .before .loop .on }) (c .before .before .before .before .before .before .loop .run) (c .before .before .before .before .before .before .loop .out) (omega (arith, c .before .before .before .before .block-length .ensures .1 .1 .0)) refl (c .before .before .before .packed .ensures) (stays-law (record { f1 = c .before .before .before .before .before .before .loop .f1; marks = c .before .before .before .before .before .before .loop .marks; row = c .before .before .before .before .before .before .loop .row; level = c .before .before .before .before .before .before .loop .level; on = c .before .before .before .before .before .before .loop .on }) (c .before .before .before .before .before .before .loop .run) _ _ _ (c .before .before .before .before .before .before .before .before .before .before .args .recent .now) (c .before .before .before .before .before .before .before .before .before .before .args .base) (c .before .before .before .before .before .before .before .before .before .before .args .values .now) (c .before .before .before .before .before .before .loop .out) (c .before .before .before .before .block-length .ensures .1 .0) (c .before .stays .ensures (c .if1 .taken))) (c .before .before .before .before .before .before .loop .inv)
+stays-requires : tie.Need-stays-requires Inv-loop2 μ-loop2 Inv-loop3 μ-loop3 Inv-loop μ-loop
+stays-requires c κs = search needs
 
-cast-block : tie.Need-cast-block Inv-loop μ-loop
-cast-block c = omega arith
+loop-less : tie.Need-loop-less Inv-loop2 μ-loop2 Inv-loop3 μ-loop3 Inv-loop μ-loop
+loop-less c =
+    let block-length = c .before .before .before .before .block-length in
+    let test1 = c .before .before .before .before .before .loop-test in
+    let loop = c .before .before .before .before .before .before .loop in
+    omega (arith, block-length .ensures .1 .1 .0, block-length .ensures .1 .1 .1 (omega (arith, test1 .taken)), loop .inv .1 .most)
 
-block-requires : tie.Need-block-requires Inv-loop μ-loop
-block-requires c κs = omega (arith, c .before .before .before .before .before .before .before .before .before .before .block-length .ensures .1 .0, c .before .before .before .before .before .before .before .before .before .before .block-length .ensures .1 .1 .0, c .before .before .before .before .before .before .before .before .before .before .block-length .ensures .1 .1 .1 (omega arith), c .before .before .before .before .before .before .before .before .before .before .before .before .loop .inv .most, c .before .before .before .before .before .before .before .before .before .before .before .before .before .before .before .before .pre)
+loop-again : tie.Need-loop-again Inv-loop2 μ-loop2 Inv-loop3 μ-loop3 Inv-loop μ-loop
+loop-again c =
+    let if1 = c .if1 in
+    let stays = c .before .stays in
+    let packed = c .before .before .before .packed in
+    let block-length = c .before .before .before .before .block-length in
+    let test1 = c .before .before .before .before .before .loop-test in
+    let loop = c .before .before .before .before .before .before .loop in
+    let array-of = c .before .before .before .before .before .before .before .before .array-of in
+    let args = c .before .before .before .before .before .before .before .before .before .before .before .before .before .before .args in
+    let o : Progress = record { front = loop .front; machine = machineIn (loop .places) (loop .counts); at = loop .at } in
+    let s = all-three _ _ _ _ (stays .ensures) (if1 .taken) in
+    (loop .inv .0,
+    feed-next (record { front = args .o .front; machine = machineIn (array-of .result) (args .o .machine .counts); at = args .o .at }) (args .recent .now) (args .base) (args .flags .now) (args .values .now) (args .out .now)
+    (loop .out) o (loop .done) (block-length .result) _ (packed .result) o (loop .out) (omega (arith, block-length .ensures .1 .1 .0, test1 .taken)) refl (packed .ensures)
+    (stays-law o (packed .result) (block-length .result) _ (args .recent .now) (args .base) (args .values .now) (loop .out) (block-length .ensures .1 .0) (s .0) (s .1) (s .2))
+    (loop .inv .1))
 
-loop-less-2 : tie.Need-loop-less-2 Inv-loop μ-loop
-loop-less-2 c = omega (arith, c .before .before .before .before .before .before .before .before .before .before .before .before .before .block-length .ensures .1 .1 .0, c .before .before .before .before .before .before .before .before .before .before .before .before .before .block-length .ensures .1 .1 .1 (omega arith), c .before .before .before .before .before .before .before .before .before .before .before .before .before .before .before .loop .inv .most)
+cast-advance : tie.Need-cast-advance Inv-loop2 μ-loop2 Inv-loop3 μ-loop3 Inv-loop μ-loop
+cast-advance c = search needs
 
-loop-again-2 : tie.Need-loop-again-2 Inv-loop μ-loop
-loop-again-2 c = feed-next (record { f1 = c .before .before .before .before .before .before .before .before .before .before .before .before .before .before .before .before .before .before .before .args .f1 .now; marks = c .before .before .before .before .before .before .before .before .before .before .before .before .before .before .before .before .before .before .before .args .marks .now; row = c .before .before .before .before .before .before .before .before .before .before .before .before .before .before .before .before .before .before .before .args .row .now; level = c .before .before .before .before .before .before .before .before .before .before .before .before .before .before .before .before .before .before .before .args .level .now; on = c .before .before .before .before .before .before .before .before .before .before .before .before .before .before .before .before .before .before .before .args .on .now }) (c .before .before .before .before .before .before .before .before .before .before .before .before .before .before .before .before .before .before .before .args .o) (c .before .before .before .before .before .before .before .before .before .before .before .before .before .before .before .before .before .before .before .args .recent .now) (c .before .before .before .before .before .before .before .before .before .before .before .before .before .before .before .before .before .before .before .args .base) (c .before .before .before .before .before .before .before .before .before .before .before .before .before .before .before .before .before .before .before .args .flags .now) (c .before .before .before .before .before .before .before .before .before .before .before .before .before .before .before .before .before .before .before .args .values .now) (c .before .before .before .before .before .before .before .before .before .before .before .before .before .before .before .before .before .before .before .args .out .now) (c .before .before .before .before .before .before .before .before .before .before .before .before .before .before .before .loop .out) (record { f1 = c .before .before .before .before .before .before .before .before .before .before .before .before .before .before .before .loop .f1; marks = c .before .before .before .before .before .before .before .before .before .before .before .before .before .before .before .loop .marks; row = c .before .before .before .before .before .before .before .before .before .before .before .before .before .before .before .loop .row; level = c .before .before .before .before .before .before .before .before .before .before .before .before .before .before .before .loop .level; on = c .before .before .before .before .before .before .before .before .before .before .before .before .before .before .before .loop .on }) (c .before .before .before .before .before .before .before .before .before .before .before .before .before .before .before .loop .run) (c .before .before .before .before .before .before .before .before .before .before .before .before .before .before .before .loop .i) (c .before .before .before .before .before .before .before .before .before .before .before .before .before .block-length .result) _ _ _ (c .before .before .block .result) _ (omega (arith, c .before .before .before .before .before .before .before .before .before .before .before .before .before .block-length .ensures .1 .1 .0)) refl (c .before .before .before .before .before .before .before .before .before .before .before .before .packed .ensures) (c .before .before .block .ensures) (c .before .before .before .before .before .before .before .before .before .before .before .before .before .before .before .loop .inv)
+advance-requires : tie.Need-advance-requires Inv-loop2 μ-loop2 Inv-loop3 μ-loop3 Inv-loop μ-loop
+advance-requires c κs =
+    let block-length = c .before .before .before .before .block-length in
+    let test1 = c .before .before .before .before .before .loop-test in
+    (omega (arith, block-length .ensures .1 .1 .1 (omega (arith, test1 .taken))), block-length .ensures .1 .0)
 
-same-length : tie.Need-same-length Inv-loop μ-loop
-same-length c = c .before .loop .inv .same
+span-of-requires : tie.Need-span-of-requires Inv-loop2 μ-loop2 Inv-loop3 μ-loop3 Inv-loop μ-loop
+span-of-requires c κs = search needs
 
-returns : tie.Need-returns Inv-loop μ-loop
-returns c = feed-end (record { f1 = c .before .before .before .before .before .args .f1 .now; marks = c .before .before .before .before .before .args .marks .now; row = c .before .before .before .before .before .args .row .now; level = c .before .before .before .before .before .args .level .now; on = c .before .before .before .before .before .args .on .now }) (c .before .before .before .before .before .args .o) (c .before .before .before .before .before .args .recent .now) (c .before .before .before .before .before .args .base) (c .before .before .before .before .before .args .flags .now) (c .before .before .before .before .before .args .values .now) (c .before .before .before .before .before .args .out .now) (c .before .loop .out) (record { f1 = c .before .loop .f1; marks = c .before .loop .marks; row = c .before .loop .row; level = c .before .loop .level; on = c .before .loop .on }) (c .before .loop .run) (c .before .loop .i) (c .loop-test .left) (c .before .loop .inv)
+cast-top : tie.Need-cast-top Inv-loop2 μ-loop2 Inv-loop3 μ-loop3 Inv-loop μ-loop
+cast-top c = search needs
+
+top-requires : tie.Need-top-requires Inv-loop2 μ-loop2 Inv-loop3 μ-loop3 Inv-loop μ-loop
+top-requires c κs =
+    let block-length = c .before .before .before .before .before .before .block-length in
+    let test1 = c .before .before .before .before .before .before .before .loop-test in
+    (omega (arith, block-length .ensures .1 .1 .1 (omega (arith, test1 .taken))), block-length .ensures .1 .0)
+
+array-copy-out-none-due :
+    tie.Need-array-copy-out-none-due Inv-loop2 μ-loop2 Inv-loop3 μ-loop3 Inv-loop μ-loop
+array-copy-out-none-due c = search needs
+
+none-due-requires : tie.Need-none-due-requires Inv-loop2 μ-loop2 Inv-loop3 μ-loop3 Inv-loop μ-loop
+none-due-requires c κs = search needs
+
+loop-less-2 : tie.Need-loop-less-2 Inv-loop2 μ-loop2 Inv-loop3 μ-loop3 Inv-loop μ-loop
+loop-less-2 c =
+    let block-length = c .before .before .before .before .before .before .before .before .before .before .block-length in
+    let test1 = c .before .before .before .before .before .before .before .before .before .before .before .loop-test in
+    let loop = c .before .before .before .before .before .before .before .before .before .before .before .before .loop in
+    omega (arith, block-length .ensures .1 .1 .0, block-length .ensures .1 .1 .1 (omega (arith, test1 .taken)), loop .inv .1 .most)
+
+loop-again-2 : tie.Need-loop-again-2 Inv-loop2 μ-loop2 Inv-loop3 μ-loop3 Inv-loop μ-loop
+loop-again-2 c =
+    let if2 = c .if2 in
+    let none-due = c .before .none-due in
+    let top = c .before .before .before .top in
+    let span-of = c .before .before .before .before .span-of in
+    let advance = c .before .before .before .before .before .advance in
+    let packed = c .before .before .before .before .before .before .before .before .before .packed in
+    let block-length = c .before .before .before .before .before .before .before .before .before .before .block-length in
+    let test1 = c .before .before .before .before .before .before .before .before .before .before .before .loop-test in
+    let loop = c .before .before .before .before .before .before .before .before .before .before .before .before .loop in
+    let array-of = c .before .before .before .before .before .before .before .before .before .before .before .before .before .before .array-of in
+    let args = c .before .before .before .before .before .before .before .before .before .before .before .before .before .before .before .before .before .before .before .before .args in
+    let o : Progress = record { front = loop .front; machine = machineIn (loop .places) (loop .counts); at = loop .at } in
+    let m = machineIn (loop .places) (loop .counts) in
+    let s = both _ _ (if2 .taken) in
+    (loop .inv .0,
+    feed-next (record { front = args .o .front; machine = machineIn (array-of .result) (args .o .machine .counts); at = args .o .at }) (args .recent .now) (args .base) (args .flags .now) (args .values .now) (args .out .now)
+    (loop .out) o (loop .done) (block-length .result) _ (packed .result) (record { front = advance .result; machine = m; at = loop .at }) (loop .out) (omega (arith, block-length .ensures .1 .1 .0, test1 .taken)) refl (packed .ensures)
+    (block-law o (packed .result) (block-length .result) _ (args .recent .now) (args .base) (args .values .now) (loop .out) (advance .result) (span-of .result) m (loop .at) (loop .out) (advance .ensures) (span-of .ensures)
+    (end-works m (span-of .result) (block-length .result) _ (args .recent .now) (args .base) (args .values .now) (loop .at) (loop .out) (loop .out) (loop .places) (loop .counts) (loop .at)
+    (end-none m (span-of .result) (block-length .result) _ (args .recent .now) (args .base) (args .values .now) (loop .at) (loop .out) (loop .places) (loop .counts) (top .result) refl (block-length .ensures .1 .0) (top .ensures) (eqb-true _ 0 (s .0)))
+    (sym (none-due .ensures) ∙ s .1)))
+    (loop .inv .1))
+
+covers-of-requires :
+    tie.Need-covers-of-requires Inv-loop2 μ-loop2 Inv-loop3 μ-loop3 Inv-loop μ-loop
+covers-of-requires c κs =
+    let block-length = c .before .before .before .before .before .before .before .before .before .before .block-length in
+    let test1 = c .before .before .before .before .before .before .before .before .before .before .before .loop-test in
+    let pre = c .before .before .before .before .before .before .before .before .before .before .before .before .before .before .before .before .before .before .before .before .pre in
+    omega (arith, pre, block-length .ensures .1 .1 .0, test1 .taken)
+
+risks-of-requires : tie.Need-risks-of-requires Inv-loop2 μ-loop2 Inv-loop3 μ-loop3 Inv-loop μ-loop
+risks-of-requires c κs =
+    let block-length = c .before .before .before .before .before .before .before .before .before .before .before .block-length in
+    let test1 = c .before .before .before .before .before .before .before .before .before .before .before .before .loop-test in
+    let pre = c .before .before .before .before .before .before .before .before .before .before .before .before .before .before .before .before .before .before .before .before .before .pre in
+    omega (arith, pre, block-length .ensures .1 .1 .0, test1 .taken)
+
+wanted-requires : tie.Need-wanted-requires Inv-loop2 μ-loop2 Inv-loop3 μ-loop3 Inv-loop μ-loop
+wanted-requires c κs = search needs
+
+cast-from : tie.Need-cast-from Inv-loop2 μ-loop2 Inv-loop3 μ-loop3 Inv-loop μ-loop
+cast-from c =
+    let block-length = c .before .before .before .before .before .before .before .before .before .before .before .before .before .block-length in
+    omega (arith, block-length .ensures .1 .0)
+
+sub-from : tie.Need-sub-from Inv-loop2 μ-loop2 Inv-loop3 μ-loop3 Inv-loop μ-loop
+sub-from c =
+    let block-length = c .before .before .before .before .before .before .before .before .before .before .before .before .before .block-length in
+    omega (arith, block-length .ensures .1 .0)
+
+loop2-holds : tie.Need-loop2-holds Inv-loop2 μ-loop2 Inv-loop3 μ-loop3 Inv-loop μ-loop
+loop2-holds c =
+    let wanted = c .wanted in
+    let risks-of = c .before .risks-of in
+    let covers-of = c .before .before .covers-of in
+    let top = c .before .before .before .before .before .before .top in
+    let span-of = c .before .before .before .before .before .before .before .span-of in
+    let block-length = c .before .before .before .before .before .before .before .before .before .before .before .before .before .block-length in
+    let loop = c .before .before .before .before .before .before .before .before .before .before .before .before .before .before .before .loop in
+    let args = c .before .before .before .before .before .before .before .before .before .before .before .before .before .before .before .before .before .before .before .before .before .before .before .args in
+    work-start (machineIn (loop .places) (loop .counts)) (span-of .result) (block-length .result) _ (args .recent .now) (args .base) (args .values .now) (loop .at) (loop .out)
+    (loop .places) (covers-of .result) (risks-of .result) (loop .counts) (top .result) (wanted .result) (loop .inv .0) refl (omega (arith, block-length .ensures .1 .0))
+    (all-marked _ (covers-of .result) (risks-of .result) (loop .places) (covers-of .ensures) (risks-of .ensures)) (top .ensures) (wanted .ensures)
+
+lowest-requires : tie.Need-lowest-requires Inv-loop2 μ-loop2 Inv-loop3 μ-loop3 Inv-loop μ-loop
+lowest-requires c κs = search needs
+
+tick-of-requires : tie.Need-tick-of-requires Inv-loop2 μ-loop2 Inv-loop3 μ-loop3 Inv-loop μ-loop
+tick-of-requires c κs =
+    let lowest = c .lowest in
+    let block-length = c .before .before .before .before .before .before .before .before .before .before .before .before .before .before .before .before .block-length in
+    let test1 = c .before .before .before .before .before .before .before .before .before .before .before .before .before .before .before .before .before .loop-test in
+    let pre = c .before .before .before .before .before .before .before .before .before .before .before .before .before .before .before .before .before .before .before .before .before .before .before .before .before .before .pre in
+    (lowest .ensures .below, omega (arith, pre, block-length .ensures .1 .1 .0, test1 .taken))
+
+array-copy-out-is-over :
+    tie.Need-array-copy-out-is-over Inv-loop2 μ-loop2 Inv-loop3 μ-loop3 Inv-loop μ-loop
+array-copy-out-is-over c = search needs
+
+is-over-requires : tie.Need-is-over-requires Inv-loop2 μ-loop2 Inv-loop3 μ-loop3 Inv-loop μ-loop
+is-over-requires c κs = search needs
+
+array-copy-out-hand-one :
+    tie.Need-array-copy-out-hand-one Inv-loop2 μ-loop2 Inv-loop3 μ-loop3 Inv-loop μ-loop
+array-copy-out-hand-one c = search needs
+
+hand-one-requires : tie.Need-hand-one-requires Inv-loop2 μ-loop2 Inv-loop3 μ-loop3 Inv-loop μ-loop
+hand-one-requires c κs = search needs
+
+array-copy-out-kept :
+    tie.Need-array-copy-out-kept Inv-loop2 μ-loop2 Inv-loop3 μ-loop3 Inv-loop μ-loop
+array-copy-out-kept c = search needs
+
+kept-requires : tie.Need-kept-requires Inv-loop2 μ-loop2 Inv-loop3 μ-loop3 Inv-loop μ-loop
+kept-requires c κs = search needs
+
+array-copy-out-kept-2 :
+    tie.Need-array-copy-out-kept-2 Inv-loop2 μ-loop2 Inv-loop3 μ-loop3 Inv-loop μ-loop
+array-copy-out-kept-2 c = search needs
+
+kept-requires-2 : tie.Need-kept-requires-2 Inv-loop2 μ-loop2 Inv-loop3 μ-loop3 Inv-loop μ-loop
+kept-requires-2 c κs = search needs
+
+array-copy-out-kept-3 :
+    tie.Need-array-copy-out-kept-3 Inv-loop2 μ-loop2 Inv-loop3 μ-loop3 Inv-loop μ-loop
+array-copy-out-kept-3 c = search needs
+
+kept-requires-3 : tie.Need-kept-requires-3 Inv-loop2 μ-loop2 Inv-loop3 μ-loop3 Inv-loop μ-loop
+kept-requires-3 c κs = search needs
+
+idle-place-requires :
+    tie.Need-idle-place-requires Inv-loop2 μ-loop2 Inv-loop3 μ-loop3 Inv-loop μ-loop
+idle-place-requires c κs = search needs
+
+without-word-requires :
+    tie.Need-without-word-requires Inv-loop2 μ-loop2 Inv-loop3 μ-loop3 Inv-loop μ-loop
+without-word-requires c κs = search needs
+
+without-word-requires-2 :
+    tie.Need-without-word-requires-2 Inv-loop2 μ-loop2 Inv-loop3 μ-loop3 Inv-loop μ-loop
+without-word-requires-2 c κs = search needs
+
+loop2-less : tie.Need-loop2-less Inv-loop2 μ-loop2 Inv-loop3 μ-loop3 Inv-loop μ-loop
+loop2-less c =
+    let without-word2 = c .without-word2 in
+    let idle-place = c .before .before .idle-place in
+    let kept3 = c .before .before .before .kept3 in
+    let kept2 = c .before .before .before .before .before .kept2 in
+    let kept = c .before .before .before .before .before .before .before .kept in
+    let if3 = c .before .before .before .before .before .before .before .before .before .before .before .before .before .before .if3 in
+    let is-over = c .before .before .before .before .before .before .before .before .before .before .before .before .before .before .before .is-over in
+    let tick-of = c .before .before .before .before .before .before .before .before .before .before .before .before .before .before .before .before .before .tick-of in
+    let loop2 = c .before .before .before .before .before .before .before .before .before .before .before .before .before .before .before .before .before .before .before .before .loop2 in
+    turn-over (ended (tick-of .result)) (loop2 .from) (loop2 .places) _ (loop2 .risk) (without-word2 .result) (sym (is-over .ensures) ∙ if3 .taken) (four-places _ _ _ _ _ _ _ _ (kept .ensures) (kept2 .ensures) (kept3 .ensures) (idle-place .ensures)) (without-word2 .ensures)
+
+loop2-again : tie.Need-loop2-again Inv-loop2 μ-loop2 Inv-loop3 μ-loop3 Inv-loop μ-loop
+loop2-again c =
+    let without-word2 = c .without-word2 in
+    let without-word = c .before .without-word in
+    let idle-place = c .before .before .idle-place in
+    let kept3 = c .before .before .before .kept3 in
+    let kept2 = c .before .before .before .before .before .kept2 in
+    let kept = c .before .before .before .before .before .before .before .kept in
+    let hand-one = c .before .before .before .before .before .before .before .before .before .before .before .hand-one in
+    let if3 = c .before .before .before .before .before .before .before .before .before .before .before .before .before .before .if3 in
+    let is-over = c .before .before .before .before .before .before .before .before .before .before .before .before .before .before .before .is-over in
+    let tick-of = c .before .before .before .before .before .before .before .before .before .before .before .before .before .before .before .before .before .tick-of in
+    let lowest = c .before .before .before .before .before .before .before .before .before .before .before .before .before .before .before .before .before .before .lowest in
+    let loop2 = c .before .before .before .before .before .before .before .before .before .before .before .before .before .before .before .before .before .before .before .before .loop2 in
+    let span-of = c .before .before .before .before .before .before .before .before .before .before .before .before .before .before .before .before .before .before .before .before .before .before .before .before .before .before .before .before .span-of in
+    let block-length = c .before .before .before .before .before .before .before .before .before .before .before .before .before .before .before .before .before .before .before .before .before .before .before .before .before .before .before .before .before .before .before .before .before .before .block-length in
+    let loop = c .before .before .before .before .before .before .before .before .before .before .before .before .before .before .before .before .before .before .before .before .before .before .before .before .before .before .before .before .before .before .before .before .before .before .before .before .loop in
+    let args = c .before .before .before .before .before .before .before .before .before .before .before .before .before .before .before .before .before .before .before .before .before .before .before .before .before .before .before .before .before .before .before .before .before .before .before .before .before .before .before .before .before .before .before .before .args in
+    work-over (machineIn (loop .places) (loop .counts)) (span-of .result) (block-length .result) _ (args .recent .now) (args .base) (args .values .now) (loop .at) (loop .out)
+    (loop2 .out) (loop2 .places) (loop2 .on) (loop2 .risk) (loop2 .counts) (loop2 .at) (loop2 .todo) (loop2 .from) (loop2 .inv) (lowest .result) (tick-of .result) (lowest .ensures) (tick-of .ensures .1)
+    (is-over .result) (is-over .ensures) (if3 .taken) (hand-one .result) _ (hand-one .kept .1 .1 .0) (hand-one .ensures) (without-word .result) (without-word2 .result) _ (without-word .ensures) (without-word2 .ensures) (four-places _ _ _ _ _ _ _ _ (kept .ensures) (kept2 .ensures) (kept3 .ensures) (idle-place .ensures))
+
+marked-requires : tie.Need-marked-requires Inv-loop2 μ-loop2 Inv-loop3 μ-loop3 Inv-loop μ-loop
+marked-requires c κs = search needs
+
+pulse-at-requires : tie.Need-pulse-at-requires Inv-loop2 μ-loop2 Inv-loop3 μ-loop3 Inv-loop μ-loop
+pulse-at-requires c κs = search needs
+
+framed-requires : tie.Need-framed-requires Inv-loop2 μ-loop2 Inv-loop3 μ-loop3 Inv-loop μ-loop
+framed-requires c κs = search needs
+
+apart-requires : tie.Need-apart-requires Inv-loop2 μ-loop2 Inv-loop3 μ-loop3 Inv-loop μ-loop
+apart-requires c κs = search needs
+
+add-t78 : tie.Need-add-t78 Inv-loop2 μ-loop2 Inv-loop3 μ-loop3 Inv-loop μ-loop
+add-t78 c = search needs
+
+second-main-requires :
+    tie.Need-second-main-requires Inv-loop2 μ-loop2 Inv-loop3 μ-loop3 Inv-loop μ-loop
+second-main-requires c κs = search needs
+
+pulse-at-requires-2 :
+    tie.Need-pulse-at-requires-2 Inv-loop2 μ-loop2 Inv-loop3 μ-loop3 Inv-loop μ-loop
+pulse-at-requires-2 c κs = search needs
+
+firsts-of-requires :
+    tie.Need-firsts-of-requires Inv-loop2 μ-loop2 Inv-loop3 μ-loop3 Inv-loop μ-loop
+firsts-of-requires c κs = search needs
+
+is-busy-requires : tie.Need-is-busy-requires Inv-loop2 μ-loop2 Inv-loop3 μ-loop3 Inv-loop μ-loop
+is-busy-requires c κs = search needs
+
+outcome-of-requires :
+    tie.Need-outcome-of-requires Inv-loop2 μ-loop2 Inv-loop3 μ-loop3 Inv-loop μ-loop
+outcome-of-requires c κs =
+    let lowest = c .before .before .before .before .before .before .before .before .before .before .before .before .before .before .lowest in
+    lowest .ensures .below
+
+counted-requires : tie.Need-counted-requires Inv-loop2 μ-loop2 Inv-loop3 μ-loop3 Inv-loop μ-loop
+counted-requires c κs = search needs
+
+removed-by-requires :
+    tie.Need-removed-by-requires Inv-loop2 μ-loop2 Inv-loop3 μ-loop3 Inv-loop μ-loop
+removed-by-requires c κs = search needs
+
+behind-requires : tie.Need-behind-requires Inv-loop2 μ-loop2 Inv-loop3 μ-loop3 Inv-loop μ-loop
+behind-requires c κs = search needs
+
+mul-kept : tie.Need-mul-kept Inv-loop2 μ-loop2 Inv-loop3 μ-loop3 Inv-loop μ-loop
+mul-kept c = search needs
+
+array-copy-out-kept-4 :
+    tie.Need-array-copy-out-kept-4 Inv-loop2 μ-loop2 Inv-loop3 μ-loop3 Inv-loop μ-loop
+array-copy-out-kept-4 c = search needs
+
+kept-requires-4 : tie.Need-kept-requires-4 Inv-loop2 μ-loop2 Inv-loop3 μ-loop3 Inv-loop μ-loop
+kept-requires-4 c κs = search needs
+
+behind-requires-2 : tie.Need-behind-requires-2 Inv-loop2 μ-loop2 Inv-loop3 μ-loop3 Inv-loop μ-loop
+behind-requires-2 c κs = search needs
+
+mul-kept-2 : tie.Need-mul-kept-2 Inv-loop2 μ-loop2 Inv-loop3 μ-loop3 Inv-loop μ-loop
+mul-kept-2 c = search needs
+
+array-copy-out-kept-5 :
+    tie.Need-array-copy-out-kept-5 Inv-loop2 μ-loop2 Inv-loop3 μ-loop3 Inv-loop μ-loop
+array-copy-out-kept-5 c = search needs
+
+kept-requires-5 : tie.Need-kept-requires-5 Inv-loop2 μ-loop2 Inv-loop3 μ-loop3 Inv-loop μ-loop
+kept-requires-5 c κs = search needs
+
+behind-requires-3 : tie.Need-behind-requires-3 Inv-loop2 μ-loop2 Inv-loop3 μ-loop3 Inv-loop μ-loop
+behind-requires-3 c κs = search needs
+
+mul-kept-3 : tie.Need-mul-kept-3 Inv-loop2 μ-loop2 Inv-loop3 μ-loop3 Inv-loop μ-loop
+mul-kept-3 c = search needs
+
+array-copy-out-kept-6 :
+    tie.Need-array-copy-out-kept-6 Inv-loop2 μ-loop2 Inv-loop3 μ-loop3 Inv-loop μ-loop
+array-copy-out-kept-6 c = search needs
+
+kept-requires-6 : tie.Need-kept-requires-6 Inv-loop2 μ-loop2 Inv-loop3 μ-loop3 Inv-loop μ-loop
+kept-requires-6 c κs = search needs
+
+idle-place-requires-2 :
+    tie.Need-idle-place-requires-2 Inv-loop2 μ-loop2 Inv-loop3 μ-loop3 Inv-loop μ-loop
+idle-place-requires-2 c κs = search needs
+
+without-word-requires-3 :
+    tie.Need-without-word-requires-3 Inv-loop2 μ-loop2 Inv-loop3 μ-loop3 Inv-loop μ-loop
+without-word-requires-3 c κs = search needs
+
+without-word-requires-4 :
+    tie.Need-without-word-requires-4 Inv-loop2 μ-loop2 Inv-loop3 μ-loop3 Inv-loop μ-loop
+without-word-requires-4 c κs = search needs
+
+loop2-less-2 : tie.Need-loop2-less-2 Inv-loop2 μ-loop2 Inv-loop3 μ-loop3 Inv-loop μ-loop
+loop2-less-2 c =
+    let without-word4 = c .without-word4 in
+    let idle-place2 = c .before .before .idle-place2 in
+    let kept6 = c .before .before .before .kept6 in
+    let behind3 = c .before .before .before .before .before .behind3 in
+    let kept5 = c .before .before .before .before .before .before .kept5 in
+    let behind2 = c .before .before .before .before .before .before .before .before .behind2 in
+    let kept4 = c .before .before .before .before .before .before .before .before .before .kept4 in
+    let behind = c .before .before .before .before .before .before .before .before .before .before .before .behind in
+    let if5 = c .before .before .before .before .before .before .before .before .before .before .before .before .if5 in
+    let removed-by = c .before .before .before .before .before .before .before .before .before .before .before .before .before .removed-by in
+    let outcome-of = c .before .before .before .before .before .before .before .before .before .before .before .before .before .before .before .outcome-of in
+    let lowest = c .before .before .before .before .before .before .before .before .before .before .before .before .before .before .before .before .before .before .before .before .before .before .before .before .before .before .before .before .before .before .lowest in
+    let loop2 = c .before .before .before .before .before .before .before .before .before .before .before .before .before .before .before .before .before .before .before .before .before .before .before .before .before .before .before .before .before .before .before .before .loop2 in
+    turn-less (removed-by .result) (lowest .result) (loop2 .from) (loop2 .places) _ (loop2 .risk) (without-word4 .result) (if5 .taken) (removed-by .ensures ∙ outcome-of .ensures .last (omega (arith, removed-by .ensures, if5 .taken))) (four-places _ _ _ _ _ _ _ _ (kept4 .ensures ∙ ap (λ (n : ℕ). getD (loop2 .places) n idle) (behind .ensures .0)) (kept5 .ensures ∙ ap (λ (n : ℕ). getD (loop2 .places) n idle) (behind2 .ensures .0)) (kept6 .ensures ∙ ap (λ (n : ℕ). getD (loop2 .places) n idle) (behind3 .ensures .0)) (idle-place2 .ensures)) (without-word4 .ensures)
+
+loop2-again-2 : tie.Need-loop2-again-2 Inv-loop2 μ-loop2 Inv-loop3 μ-loop3 Inv-loop μ-loop
+loop2-again-2 c =
+    let without-word4 = c .without-word4 in
+    let without-word3 = c .before .without-word3 in
+    let idle-place2 = c .before .before .idle-place2 in
+    let kept6 = c .before .before .before .kept6 in
+    let behind3 = c .before .before .before .before .before .behind3 in
+    let kept5 = c .before .before .before .before .before .before .kept5 in
+    let behind2 = c .before .before .before .before .before .before .before .before .behind2 in
+    let kept4 = c .before .before .before .before .before .before .before .before .before .kept4 in
+    let behind = c .before .before .before .before .before .before .before .before .before .before .before .behind in
+    let if5 = c .before .before .before .before .before .before .before .before .before .before .before .before .if5 in
+    let removed-by = c .before .before .before .before .before .before .before .before .before .before .before .before .before .removed-by in
+    let counted = c .before .before .before .before .before .before .before .before .before .before .before .before .before .before .counted in
+    let outcome-of = c .before .before .before .before .before .before .before .before .before .before .before .before .before .before .before .outcome-of in
+    let is-busy = c .before .before .before .before .before .before .before .before .before .before .before .before .before .before .before .before .is-busy in
+    let firsts-of = c .before .before .before .before .before .before .before .before .before .before .before .before .before .before .before .before .before .firsts-of in
+    let pulse-at2 = c .before .before .before .before .before .before .before .before .before .before .before .before .before .before .before .before .before .before .pulse-at2 in
+    let second-main = c .before .before .before .before .before .before .before .before .before .before .before .before .before .before .before .before .before .before .before .second-main in
+    let apart = c .before .before .before .before .before .before .before .before .before .before .before .before .before .before .before .before .before .before .before .before .before .apart in
+    let if4 = c .before .before .before .before .before .before .before .before .before .before .before .before .before .before .before .before .before .before .before .before .before .before .if4 in
+    let framed = c .before .before .before .before .before .before .before .before .before .before .before .before .before .before .before .before .before .before .before .before .before .before .before .framed in
+    let pulse-at = c .before .before .before .before .before .before .before .before .before .before .before .before .before .before .before .before .before .before .before .before .before .before .before .before .pulse-at in
+    let marked = c .before .before .before .before .before .before .before .before .before .before .before .before .before .before .before .before .before .before .before .before .before .before .before .before .before .marked in
+    let if3 = c .before .before .before .before .before .before .before .before .before .before .before .before .before .before .before .before .before .before .before .before .before .before .before .before .before .before .if3 in
+    let is-over = c .before .before .before .before .before .before .before .before .before .before .before .before .before .before .before .before .before .before .before .before .before .before .before .before .before .before .before .is-over in
+    let tick-of = c .before .before .before .before .before .before .before .before .before .before .before .before .before .before .before .before .before .before .before .before .before .before .before .before .before .before .before .before .before .tick-of in
+    let lowest = c .before .before .before .before .before .before .before .before .before .before .before .before .before .before .before .before .before .before .before .before .before .before .before .before .before .before .before .before .before .before .lowest in
+    let loop2 = c .before .before .before .before .before .before .before .before .before .before .before .before .before .before .before .before .before .before .before .before .before .before .before .before .before .before .before .before .before .before .before .before .loop2 in
+    let span-of = c .before .before .before .before .before .before .before .before .before .before .before .before .before .before .before .before .before .before .before .before .before .before .before .before .before .before .before .before .before .before .before .before .before .before .before .before .before .before .before .before .span-of in
+    let block-length = c .before .before .before .before .before .before .before .before .before .before .before .before .before .before .before .before .before .before .before .before .before .before .before .before .before .before .before .before .before .before .before .before .before .before .before .before .before .before .before .before .before .before .before .before .before .before .block-length in
+    let loop = c .before .before .before .before .before .before .before .before .before .before .before .before .before .before .before .before .before .before .before .before .before .before .before .before .before .before .before .before .before .before .before .before .before .before .before .before .before .before .before .before .before .before .before .before .before .before .before .before .loop in
+    let args = c .before .before .before .before .before .before .before .before .before .before .before .before .before .before .before .before .before .before .before .before .before .before .before .before .before .before .before .before .before .before .before .before .before .before .before .before .before .before .before .before .before .before .before .before .before .before .before .before .before .before .before .before .before .before .before .before .args in
+    work-less (machineIn (loop .places) (loop .counts)) (span-of .result) (block-length .result) _ (args .recent .now) (args .base) (args .values .now) (loop .at) (loop .out) (loop2 .out) (loop2 .places) (loop2 .on) (loop2 .risk) (loop2 .counts) (loop2 .at) (loop2 .todo) (loop2 .from) (loop2 .inv) (lowest .result) (tick-of .result) (lowest .ensures) (tick-of .ensures .1) (is-over .result) (is-over .ensures) (if3 .left) (pulse-at .result) (pulse-as (span-of .result .main) (lowest .result) (tick-of .result) (args .recent .now) (args .base) (args .values .now) (marked .result) (pulse-at .result) (marked .ensures) (pulse-at .ensures)) (pulse-at2 .result) (second-as (span-of .result) (lowest .result) (tick-of .result) (args .recent .now) (args .base) (args .values .now) (framed .result) (framed .ensures) (if4 .taken) (second-main .result) (second-main .ensures) (apart .result) (apart .ensures .0) (pulse-at2 .result) (pulse-at2 .ensures)) (firsts-of .result) (firsts-of .ensures) (is-busy .result) (outcome-of .result) (outcome-of .ensures) (removed-by .result) (removed-by .ensures) (if5 .taken) (counted .result) (counted .ensures) (without-word3 .result) (without-word4 .result) _ (without-word3 .ensures) (without-word4 .ensures) (four-places _ _ _ _ _ _ _ _ (kept4 .ensures ∙ ap (λ (n : ℕ). getD (loop2 .places) n idle) (behind .ensures .0)) (kept5 .ensures ∙ ap (λ (n : ℕ). getD (loop2 .places) n idle) (behind2 .ensures .0)) (kept6 .ensures ∙ ap (λ (n : ℕ). getD (loop2 .places) n idle) (behind3 .ensures .0)) (idle-place2 .ensures))
+
+opens-requires : tie.Need-opens-requires Inv-loop2 μ-loop2 Inv-loop3 μ-loop3 Inv-loop μ-loop
+opens-requires c κs = search needs
+
+opened-requires : tie.Need-opened-requires Inv-loop2 μ-loop2 Inv-loop3 μ-loop3 Inv-loop μ-loop
+opened-requires c κs =
+    let lowest = c .before .before .before .before .before .before .before .before .before .before .before .before .before .before .before .before .before .before .before .before .lowest in
+    lowest .ensures .below
+
+free-requires : tie.Need-free-requires Inv-loop2 μ-loop2 Inv-loop3 μ-loop3 Inv-loop μ-loop
+free-requires c κs = search needs
+
+mul-places : tie.Need-mul-places Inv-loop2 μ-loop2 Inv-loop3 μ-loop3 Inv-loop μ-loop
+mul-places c = search needs
+
+array-set-from-places :
+    tie.Need-array-set-from-places Inv-loop2 μ-loop2 Inv-loop3 μ-loop3 Inv-loop μ-loop
+array-set-from-places c = search needs
+
+open-cover-requires :
+    tie.Need-open-cover-requires Inv-loop2 μ-loop2 Inv-loop3 μ-loop3 Inv-loop μ-loop
+open-cover-requires c κs =
+    let lowest = c .before .before .before .before .before .before .before .before .before .before .before .before .before .before .before .before .before .before .before .before .before .before .before .lowest in
+    lowest .ensures .below
+
+with-word-requires :
+    tie.Need-with-word-requires Inv-loop2 μ-loop2 Inv-loop3 μ-loop3 Inv-loop μ-loop
+with-word-requires c κs = search needs
+
+open-phantom-requires :
+    tie.Need-open-phantom-requires Inv-loop2 μ-loop2 Inv-loop3 μ-loop3 Inv-loop μ-loop
+open-phantom-requires c κs =
+    let lowest = c .before .before .before .before .before .before .before .before .before .before .before .before .before .before .before .before .before .before .before .before .before .before .before .before .before .lowest in
+    lowest .ensures .below
+
+with-word-requires-2 :
+    tie.Need-with-word-requires-2 Inv-loop2 μ-loop2 Inv-loop3 μ-loop3 Inv-loop μ-loop
+with-word-requires-2 c κs = search needs
+
+above-requires : tie.Need-above-requires Inv-loop2 μ-loop2 Inv-loop3 μ-loop3 Inv-loop μ-loop
+above-requires c κs =
+    let lowest = c .before .before .before .before .before .before .before .before .before .before .before .before .before .before .before .before .before .before .before .before .lowest in
+    lowest .ensures .below
+
+wanted-requires-2 : tie.Need-wanted-requires-2 Inv-loop2 μ-loop2 Inv-loop3 μ-loop3 Inv-loop μ-loop
+wanted-requires-2 c κs = search needs
+
+without-lowest-requires :
+    tie.Need-without-lowest-requires Inv-loop2 μ-loop2 Inv-loop3 μ-loop3 Inv-loop μ-loop
+without-lowest-requires c κs = search needs
+
+add-from : tie.Need-add-from Inv-loop2 μ-loop2 Inv-loop3 μ-loop3 Inv-loop μ-loop
+add-from c = search needs
+
+twice-requires : tie.Need-twice-requires Inv-loop2 μ-loop2 Inv-loop3 μ-loop3 Inv-loop μ-loop
+twice-requires c κs = search needs
+
+marked-requires-2 : tie.Need-marked-requires-2 Inv-loop2 μ-loop2 Inv-loop3 μ-loop3 Inv-loop μ-loop
+marked-requires-2 c κs = search needs
+
+voices-of-requires :
+    tie.Need-voices-of-requires Inv-loop2 μ-loop2 Inv-loop3 μ-loop3 Inv-loop μ-loop
+voices-of-requires c κs = search needs
+
+marked-requires-3 : tie.Need-marked-requires-3 Inv-loop2 μ-loop2 Inv-loop3 μ-loop3 Inv-loop μ-loop
+marked-requires-3 c κs = search needs
+
+array-copy-out-q : tie.Need-array-copy-out-q Inv-loop2 μ-loop2 Inv-loop3 μ-loop3 Inv-loop μ-loop
+array-copy-out-q c = search needs
+
+any3-requires : tie.Need-any3-requires Inv-loop2 μ-loop2 Inv-loop3 μ-loop3 Inv-loop μ-loop
+any3-requires c κs = search needs
+
+heard-requires : tie.Need-heard-requires Inv-loop2 μ-loop2 Inv-loop3 μ-loop3 Inv-loop μ-loop
+heard-requires c κs = search needs
+
+array-set-from-places-2 :
+    tie.Need-array-set-from-places-2 Inv-loop2 μ-loop2 Inv-loop3 μ-loop3 Inv-loop μ-loop
+array-set-from-places-2 c = search needs
+
+marked-requires-4 : tie.Need-marked-requires-4 Inv-loop2 μ-loop2 Inv-loop3 μ-loop3 Inv-loop μ-loop
+marked-requires-4 c κs = search needs
+
+array-copy-out-q-2 :
+    tie.Need-array-copy-out-q-2 Inv-loop2 μ-loop2 Inv-loop3 μ-loop3 Inv-loop μ-loop
+array-copy-out-q-2 c = search needs
+
+any3-requires-2 : tie.Need-any3-requires-2 Inv-loop2 μ-loop2 Inv-loop3 μ-loop3 Inv-loop μ-loop
+any3-requires-2 c κs = search needs
+
+heard-requires-2 : tie.Need-heard-requires-2 Inv-loop2 μ-loop2 Inv-loop3 μ-loop3 Inv-loop μ-loop
+heard-requires-2 c κs = search needs
+
+array-set-from-places-3 :
+    tie.Need-array-set-from-places-3 Inv-loop2 μ-loop2 Inv-loop3 μ-loop3 Inv-loop μ-loop
+array-set-from-places-3 c = search needs
+
+marked-requires-5 : tie.Need-marked-requires-5 Inv-loop2 μ-loop2 Inv-loop3 μ-loop3 Inv-loop μ-loop
+marked-requires-5 c κs = search needs
+
+array-copy-out-q-3 :
+    tie.Need-array-copy-out-q-3 Inv-loop2 μ-loop2 Inv-loop3 μ-loop3 Inv-loop μ-loop
+array-copy-out-q-3 c = search needs
+
+any3-requires-3 : tie.Need-any3-requires-3 Inv-loop2 μ-loop2 Inv-loop3 μ-loop3 Inv-loop μ-loop
+any3-requires-3 c κs = search needs
+
+heard-requires-3 : tie.Need-heard-requires-3 Inv-loop2 μ-loop2 Inv-loop3 μ-loop3 Inv-loop μ-loop
+heard-requires-3 c κs = search needs
+
+array-set-from-places-4 :
+    tie.Need-array-set-from-places-4 Inv-loop2 μ-loop2 Inv-loop3 μ-loop3 Inv-loop μ-loop
+array-set-from-places-4 c = search needs
+
+marked-requires-6 : tie.Need-marked-requires-6 Inv-loop2 μ-loop2 Inv-loop3 μ-loop3 Inv-loop μ-loop
+marked-requires-6 c κs = search needs
+
+array-copy-out-q-4 :
+    tie.Need-array-copy-out-q-4 Inv-loop2 μ-loop2 Inv-loop3 μ-loop3 Inv-loop μ-loop
+array-copy-out-q-4 c = search needs
+
+any3-requires-4 : tie.Need-any3-requires-4 Inv-loop2 μ-loop2 Inv-loop3 μ-loop3 Inv-loop μ-loop
+any3-requires-4 c κs = search needs
+
+heard-requires-4 : tie.Need-heard-requires-4 Inv-loop2 μ-loop2 Inv-loop3 μ-loop3 Inv-loop μ-loop
+heard-requires-4 c κs = search needs
+
+array-set-from-places-5 :
+    tie.Need-array-set-from-places-5 Inv-loop2 μ-loop2 Inv-loop3 μ-loop3 Inv-loop μ-loop
+array-set-from-places-5 c = search needs
+
+loop2-less-3 : tie.Need-loop2-less-3 Inv-loop2 μ-loop2 Inv-loop3 μ-loop3 Inv-loop μ-loop
+loop2-less-3 c =
+    let heard4 = c .heard4 in
+    let if10 = c .before .before .before .before .before .if10 in
+    let if4 = c .before .before .before .before .before .before .before .before .before .before .before .before .before .before .before .if4 in
+    let tick-of = c .before .before .before .before .before .before .before .before .before .before .before .before .before .before .before .before .before .before .before .before .before .before .tick-of in
+    let lowest = c .before .before .before .before .before .before .before .before .before .before .before .before .before .before .before .before .before .before .before .before .before .before .before .lowest in
+    let loop2 = c .before .before .before .before .before .before .before .before .before .before .before .before .before .before .before .before .before .before .before .before .before .before .before .before .before .loop2 in
+    let span-of = c .before .before .before .before .before .before .before .before .before .before .before .before .before .before .before .before .before .before .before .before .before .before .before .before .before .before .before .before .before .before .before .before .before .span-of in
+    let block-length = c .before .before .before .before .before .before .before .before .before .before .before .before .before .before .before .before .before .before .before .before .before .before .before .before .before .before .before .before .before .before .before .before .before .before .before .before .before .before .before .block-length in
+    let loop = c .before .before .before .before .before .before .before .before .before .before .before .before .before .before .before .before .before .before .before .before .before .before .before .before .before .before .before .before .before .before .before .before .before .before .before .before .before .before .before .before .before .loop in
+    let args = c .before .before .before .before .before .before .before .before .before .before .before .before .before .before .before .before .before .before .before .before .before .before .before .before .before .before .before .before .before .before .before .before .before .before .before .before .before .before .before .before .before .before .before .before .before .before .before .before .before .args in
+    turn-taken (loop2 .from) (lowest .result) (loop2 .places) (set (if10 .places) 3 (heard4 .result)) (loop2 .risk) (if4 .risk) (first-from (machineIn (loop .places) (loop .counts)) (span-of .result) (block-length .result) _ (args .recent .now) (args .base) (args .values .now) (loop .at) (loop .out) (loop2 .out) (loop2 .places) (loop2 .on) (loop2 .risk) (loop2 .counts) (loop2 .at) (loop2 .todo) (loop2 .from) (loop2 .inv) (lowest .result) (tick-of .result) (lowest .ensures) (tick-of .ensures .1)) (lowest .ensures .below)
+
+loop2-again-3 : tie.Need-loop2-again-3 Inv-loop2 μ-loop2 Inv-loop3 μ-loop3 Inv-loop μ-loop
+loop2-again-3 c =
+    let heard4 = c .heard4 in
+    let any34 = c .before .any34 in
+    let if11 = c .before .before .before .if11 in
+    let marked6 = c .before .before .before .before .marked6 in
+    let if10 = c .before .before .before .before .before .if10 in
+    let marked5 = c .before .before .before .before .before .before .marked5 in
+    let if9 = c .before .before .before .before .before .before .before .if9 in
+    let marked4 = c .before .before .before .before .before .before .before .before .marked4 in
+    let if8 = c .before .before .before .before .before .before .before .before .before .if8 in
+    let marked3 = c .before .before .before .before .before .before .before .before .before .before .marked3 in
+    let voices-of = c .before .before .before .before .before .before .before .before .before .before .before .voices-of in
+    let if4 = c .before .before .before .before .before .before .before .before .before .before .before .before .before .before .before .if4 in
+    let framed = c .before .before .before .before .before .before .before .before .before .before .before .before .before .before .before .before .framed in
+    let pulse-at = c .before .before .before .before .before .before .before .before .before .before .before .before .before .before .before .before .before .pulse-at in
+    let marked = c .before .before .before .before .before .before .before .before .before .before .before .before .before .before .before .before .before .before .marked in
+    let if3 = c .before .before .before .before .before .before .before .before .before .before .before .before .before .before .before .before .before .before .before .if3 in
+    let is-over = c .before .before .before .before .before .before .before .before .before .before .before .before .before .before .before .before .before .before .before .before .is-over in
+    let tick-of = c .before .before .before .before .before .before .before .before .before .before .before .before .before .before .before .before .before .before .before .before .before .before .tick-of in
+    let lowest = c .before .before .before .before .before .before .before .before .before .before .before .before .before .before .before .before .before .before .before .before .before .before .before .lowest in
+    let loop2 = c .before .before .before .before .before .before .before .before .before .before .before .before .before .before .before .before .before .before .before .before .before .before .before .before .before .loop2 in
+    let top = c .before .before .before .before .before .before .before .before .before .before .before .before .before .before .before .before .before .before .before .before .before .before .before .before .before .before .before .before .before .before .before .before .top in
+    let span-of = c .before .before .before .before .before .before .before .before .before .before .before .before .before .before .before .before .before .before .before .before .before .before .before .before .before .before .before .before .before .before .before .before .before .span-of in
+    let block-length = c .before .before .before .before .before .before .before .before .before .before .before .before .before .before .before .before .before .before .before .before .before .before .before .before .before .before .before .before .before .before .before .before .before .before .before .before .before .before .before .block-length in
+    let loop = c .before .before .before .before .before .before .before .before .before .before .before .before .before .before .before .before .before .before .before .before .before .before .before .before .before .before .before .before .before .before .before .before .before .before .before .before .before .before .before .before .before .loop in
+    let args = c .before .before .before .before .before .before .before .before .before .before .before .before .before .before .before .before .before .before .before .before .before .before .before .before .before .before .before .before .before .before .before .before .before .before .before .before .before .before .before .before .before .before .before .before .before .before .before .before .before .args in
+    let size : length (loop2 .places) ≡ 4 = loop2 .inv .size in
+    let stood : Stood (span-of .result) (lowest .result) (tick-of .result) (args .recent .now) (args .base) (args .values .now) (framed .result) (framed .ensures) (block-length .result) (pulse-at .result) (loop2 .places) (loop2 .on) (loop2 .risk) (loop2 .counts) (loop2 .todo) (loop2 .from) (loop2 .inv .todos) (lowest .ensures) (if4 .places) (if4 .on) (if4 .risk) (if4 .counts) (if4 .todo) =
+    either (if4 .came)
+    (λ w. stood-framed (span-of .result) (lowest .result) (tick-of .result) (args .recent .now) (args .base) (args .values .now) (framed .result) (framed .ensures) (block-length .result) (pulse-at .result) (loop2 .places) (loop2 .on) (loop2 .risk) (loop2 .counts) (loop2 .todo) (loop2 .from) (loop2 .inv .todos) (lowest .ensures) (w .4 .result)
+    (second-as (span-of .result) (lowest .result) (tick-of .result) (args .recent .now) (args .base) (args .values .now) (framed .result) (framed .ensures) (w .0 .taken) (w .3 .result) (w .3 .ensures) (w .1 .result) (w .1 .ensures .0) (w .4 .result) (w .4 .ensures))
+    (if4 .places) (if4 .on) (if4 .risk) (if4 .counts) (if4 .todo) (top .result) (w .13 .result) (w .14 .result) (w .12 .places) (w .12 .on) (w .12 .risk) (w .8 .result)
+    (either (w .12 .came)
+    (λ v. framed-as (loop2 .places) (loop2 .on) (loop2 .risk) (loop2 .counts) (lowest .result) (pulse-at .result) (w .4 .result) _ (w .12 .places) (v .5 .result) (w .12 .on) (v .7 .result) (w .12 .risk) (w .8 .result)
+    (framed-opens (loop2 .places) (loop2 .on) (loop2 .risk) (loop2 .counts) (lowest .result) (pulse-at .result) (w .4 .result) size (lowest .ensures .below) (omega (arith, ap (λ (q : Pulse). q .tick .0) (w .4 .ensures), tick-of .ensures .0, w .1 .ensures .1)) (w .5 .result) (w .5 .ensures) (w .6 .result) (w .6 .ensures) (w .7 .result) (w .7 .ensures) (w .9 .result) (w .9 .ensures) (λ z. omega (arith, w .10 .left)) (w .8 .result) (w .8 .ensures) (w .11 .result) (w .11 .ensures) (v .0 .taken) (v .1 .result) (v .1 .ensures) (v .3 .result) (v .3 .ensures .0) (v .3 .ensures .1) (v .4 .result) (v .6 .result) (v .4 .ensures) (v .6 .ensures) (v .5 .result) (v .7 .result) (v .5 .ensures) (v .7 .ensures) _ refl) (v .8) (v .9) (v .10))
+    (λ v. framed-as (loop2 .places) (loop2 .on) (loop2 .risk) (loop2 .counts) (lowest .result) (pulse-at .result) (w .4 .result) (loop2 .places) (w .12 .places) (loop2 .on) (w .12 .on) (loop2 .risk) (w .12 .risk) (w .8 .result) (framed-shut (loop2 .places) (loop2 .on) (loop2 .risk) (loop2 .counts) (lowest .result) (pulse-at .result) (w .4 .result) size (lowest .ensures .below) (omega (arith, ap (λ (q : Pulse). q .tick .0) (w .4 .ensures), tick-of .ensures .0, w .1 .ensures .1)) (w .5 .result) (w .5 .ensures) (w .6 .result) (w .6 .ensures) (w .7 .result) (w .7 .ensures) (w .9 .result) (w .9 .ensures) (λ z. omega (arith, w .10 .left)) (w .8 .result) (w .8 .ensures) (w .11 .result) (w .11 .ensures) (v .0 .left)) (v .1) (v .2) (v .3)))
+    (top .ensures) (w .13 .ensures) (w .14 .ensures) (w .15) (w .16) (w .17) (w .18) (w .19))
+    (λ w. stood-plain (span-of .result) (lowest .result) (tick-of .result) (args .recent .now) (args .base) (args .values .now) (framed .result) (framed .ensures) (block-length .result) (pulse-at .result) (loop2 .places) (loop2 .on) (loop2 .risk) (loop2 .counts) (loop2 .todo) (loop2 .from) (loop2 .inv .todos) (lowest .ensures) (w .0 .left) (if4 .places) (if4 .on) (if4 .risk) (if4 .counts) (if4 .todo) (w .1 .result) (w .1 .ensures) (w .2) (w .3) (w .4) (w .5) (w .6)) in
+    let dealt : Dealt (if4 .places) (if4 .on) (lowest .result) (pulse-at .result) (set (if10 .places) 3 (heard4 .result)) = (deals-four (if4 .places) (if8 .places) (if9 .places) (if10 .places) _ (if4 .on) (lowest .result) (pulse-at .result) (stood .size ∙ size) (marked3 .result) (marked4 .result) (marked5 .result) (marked6 .result) (marked3 .ensures) (marked4 .ensures) (marked5 .ensures) (marked6 .ensures) (voices-of .result) (voices-of .ensures)
+    (either (if8 .came)
+    (λ w. turns-did (marked3 .result) 0 (pulse-at .result) (voices-of .result .a) (any3 (voices-of .result .b) (voices-of .result .c) (voices-of .result .d)) (w .2 .result) (if4 .places) (if8 .places) (w .3 .result) (w .0 .taken) (w .4) (w .3 .ensures) (w .2 .ensures))
+    (λ w. turns-not (marked3 .result) 0 (pulse-at .result) (voices-of .result .a) (any3 (voices-of .result .b) (voices-of .result .c) (voices-of .result .d)) (if4 .places) (if8 .places) (w .0 .left) (w .1)))
+    (either (if9 .came)
+    (λ w. turns-did (marked4 .result) 1 (pulse-at .result) (voices-of .result .b) (any3 (voices-of .result .a) (voices-of .result .c) (voices-of .result .d)) (w .2 .result) (if8 .places) (if9 .places) (w .3 .result) (w .0 .taken) (w .4) (w .3 .ensures) (w .2 .ensures))
+    (λ w. turns-not (marked4 .result) 1 (pulse-at .result) (voices-of .result .b) (any3 (voices-of .result .a) (voices-of .result .c) (voices-of .result .d)) (if8 .places) (if9 .places) (w .0 .left) (w .1)))
+    (either (if10 .came)
+    (λ w. turns-did (marked5 .result) 2 (pulse-at .result) (voices-of .result .c) (any3 (voices-of .result .a) (voices-of .result .b) (voices-of .result .d)) (w .2 .result) (if9 .places) (if10 .places) (w .3 .result) (w .0 .taken) (w .4) (w .3 .ensures) (w .2 .ensures))
+    (λ w. turns-not (marked5 .result) 2 (pulse-at .result) (voices-of .result .c) (any3 (voices-of .result .a) (voices-of .result .b) (voices-of .result .d)) (if9 .places) (if10 .places) (w .0 .left) (w .1)))
+    (turns-did (marked6 .result) 3 (pulse-at .result) (voices-of .result .d) (any3 (voices-of .result .a) (voices-of .result .b) (voices-of .result .c)) (any34 .result) (if10 .places) _ (heard4 .result) (if11 .taken) refl (heard4 .ensures) (any34 .ensures))) in
+    work-taken (machineIn (loop .places) (loop .counts)) (span-of .result) (block-length .result) _ (args .recent .now) (args .base) (args .values .now) (loop .at) (loop .out) (loop2 .out) (loop2 .places) (loop2 .on) (loop2 .risk) (loop2 .counts) (loop2 .at) (loop2 .todo) (loop2 .from) (loop2 .inv) (lowest .result) (tick-of .result) (lowest .ensures) (tick-of .ensures .1) (is-over .result) (is-over .ensures) (if3 .left) (pulse-at .result) (pulse-as (span-of .result .main) (lowest .result) (tick-of .result) (args .recent .now) (args .base) (args .values .now) (marked .result) (pulse-at .result) (marked .ensures) (pulse-at .ensures)) (bracketIn (span-of .result) (lowest .result) (tick-of .result) (args .recent .now) (args .base) (args .values .now)) refl _ (if4 .on) (if4 .risk) (if4 .counts) (stood .visits _ (dealt .deal)) (if4 .todo) (stood .todos) (dealt .size ∙ stood .size ∙ size)
+
+loop2-less-4 : tie.Need-loop2-less-4 Inv-loop2 μ-loop2 Inv-loop3 μ-loop3 Inv-loop μ-loop
+loop2-less-4 c =
+    let if10 = c .before .before .if10 in
+    let if4 = c .before .before .before .before .before .before .before .before .before .before .before .before .if4 in
+    let tick-of = c .before .before .before .before .before .before .before .before .before .before .before .before .before .before .before .before .before .before .before .tick-of in
+    let lowest = c .before .before .before .before .before .before .before .before .before .before .before .before .before .before .before .before .before .before .before .before .lowest in
+    let loop2 = c .before .before .before .before .before .before .before .before .before .before .before .before .before .before .before .before .before .before .before .before .before .before .loop2 in
+    let span-of = c .before .before .before .before .before .before .before .before .before .before .before .before .before .before .before .before .before .before .before .before .before .before .before .before .before .before .before .before .before .before .span-of in
+    let block-length = c .before .before .before .before .before .before .before .before .before .before .before .before .before .before .before .before .before .before .before .before .before .before .before .before .before .before .before .before .before .before .before .before .before .before .before .before .block-length in
+    let loop = c .before .before .before .before .before .before .before .before .before .before .before .before .before .before .before .before .before .before .before .before .before .before .before .before .before .before .before .before .before .before .before .before .before .before .before .before .before .before .loop in
+    let args = c .before .before .before .before .before .before .before .before .before .before .before .before .before .before .before .before .before .before .before .before .before .before .before .before .before .before .before .before .before .before .before .before .before .before .before .before .before .before .before .before .before .before .before .before .before .before .args in
+    turn-taken (loop2 .from) (lowest .result) (loop2 .places) (if10 .places) (loop2 .risk) (if4 .risk) (first-from (machineIn (loop .places) (loop .counts)) (span-of .result) (block-length .result) _ (args .recent .now) (args .base) (args .values .now) (loop .at) (loop .out) (loop2 .out) (loop2 .places) (loop2 .on) (loop2 .risk) (loop2 .counts) (loop2 .at) (loop2 .todo) (loop2 .from) (loop2 .inv) (lowest .result) (tick-of .result) (lowest .ensures) (tick-of .ensures .1)) (lowest .ensures .below)
+
+loop2-again-4 : tie.Need-loop2-again-4 Inv-loop2 μ-loop2 Inv-loop3 μ-loop3 Inv-loop μ-loop
+loop2-again-4 c =
+    let if11 = c .if11 in
+    let marked6 = c .before .marked6 in
+    let if10 = c .before .before .if10 in
+    let marked5 = c .before .before .before .marked5 in
+    let if9 = c .before .before .before .before .if9 in
+    let marked4 = c .before .before .before .before .before .marked4 in
+    let if8 = c .before .before .before .before .before .before .if8 in
+    let marked3 = c .before .before .before .before .before .before .before .marked3 in
+    let voices-of = c .before .before .before .before .before .before .before .before .voices-of in
+    let if4 = c .before .before .before .before .before .before .before .before .before .before .before .before .if4 in
+    let framed = c .before .before .before .before .before .before .before .before .before .before .before .before .before .framed in
+    let pulse-at = c .before .before .before .before .before .before .before .before .before .before .before .before .before .before .pulse-at in
+    let marked = c .before .before .before .before .before .before .before .before .before .before .before .before .before .before .before .marked in
+    let if3 = c .before .before .before .before .before .before .before .before .before .before .before .before .before .before .before .before .if3 in
+    let is-over = c .before .before .before .before .before .before .before .before .before .before .before .before .before .before .before .before .before .is-over in
+    let tick-of = c .before .before .before .before .before .before .before .before .before .before .before .before .before .before .before .before .before .before .before .tick-of in
+    let lowest = c .before .before .before .before .before .before .before .before .before .before .before .before .before .before .before .before .before .before .before .before .lowest in
+    let loop2 = c .before .before .before .before .before .before .before .before .before .before .before .before .before .before .before .before .before .before .before .before .before .before .loop2 in
+    let top = c .before .before .before .before .before .before .before .before .before .before .before .before .before .before .before .before .before .before .before .before .before .before .before .before .before .before .before .before .before .top in
+    let span-of = c .before .before .before .before .before .before .before .before .before .before .before .before .before .before .before .before .before .before .before .before .before .before .before .before .before .before .before .before .before .before .span-of in
+    let block-length = c .before .before .before .before .before .before .before .before .before .before .before .before .before .before .before .before .before .before .before .before .before .before .before .before .before .before .before .before .before .before .before .before .before .before .before .before .block-length in
+    let loop = c .before .before .before .before .before .before .before .before .before .before .before .before .before .before .before .before .before .before .before .before .before .before .before .before .before .before .before .before .before .before .before .before .before .before .before .before .before .before .loop in
+    let args = c .before .before .before .before .before .before .before .before .before .before .before .before .before .before .before .before .before .before .before .before .before .before .before .before .before .before .before .before .before .before .before .before .before .before .before .before .before .before .before .before .before .before .before .before .before .before .args in
+    let size : length (loop2 .places) ≡ 4 = loop2 .inv .size in
+    let stood : Stood (span-of .result) (lowest .result) (tick-of .result) (args .recent .now) (args .base) (args .values .now) (framed .result) (framed .ensures) (block-length .result) (pulse-at .result) (loop2 .places) (loop2 .on) (loop2 .risk) (loop2 .counts) (loop2 .todo) (loop2 .from) (loop2 .inv .todos) (lowest .ensures) (if4 .places) (if4 .on) (if4 .risk) (if4 .counts) (if4 .todo) =
+    either (if4 .came)
+    (λ w. stood-framed (span-of .result) (lowest .result) (tick-of .result) (args .recent .now) (args .base) (args .values .now) (framed .result) (framed .ensures) (block-length .result) (pulse-at .result) (loop2 .places) (loop2 .on) (loop2 .risk) (loop2 .counts) (loop2 .todo) (loop2 .from) (loop2 .inv .todos) (lowest .ensures) (w .4 .result)
+    (second-as (span-of .result) (lowest .result) (tick-of .result) (args .recent .now) (args .base) (args .values .now) (framed .result) (framed .ensures) (w .0 .taken) (w .3 .result) (w .3 .ensures) (w .1 .result) (w .1 .ensures .0) (w .4 .result) (w .4 .ensures))
+    (if4 .places) (if4 .on) (if4 .risk) (if4 .counts) (if4 .todo) (top .result) (w .13 .result) (w .14 .result) (w .12 .places) (w .12 .on) (w .12 .risk) (w .8 .result)
+    (either (w .12 .came)
+    (λ v. framed-as (loop2 .places) (loop2 .on) (loop2 .risk) (loop2 .counts) (lowest .result) (pulse-at .result) (w .4 .result) _ (w .12 .places) (v .5 .result) (w .12 .on) (v .7 .result) (w .12 .risk) (w .8 .result)
+    (framed-opens (loop2 .places) (loop2 .on) (loop2 .risk) (loop2 .counts) (lowest .result) (pulse-at .result) (w .4 .result) size (lowest .ensures .below) (omega (arith, ap (λ (q : Pulse). q .tick .0) (w .4 .ensures), tick-of .ensures .0, w .1 .ensures .1)) (w .5 .result) (w .5 .ensures) (w .6 .result) (w .6 .ensures) (w .7 .result) (w .7 .ensures) (w .9 .result) (w .9 .ensures) (λ z. omega (arith, w .10 .left)) (w .8 .result) (w .8 .ensures) (w .11 .result) (w .11 .ensures) (v .0 .taken) (v .1 .result) (v .1 .ensures) (v .3 .result) (v .3 .ensures .0) (v .3 .ensures .1) (v .4 .result) (v .6 .result) (v .4 .ensures) (v .6 .ensures) (v .5 .result) (v .7 .result) (v .5 .ensures) (v .7 .ensures) _ refl) (v .8) (v .9) (v .10))
+    (λ v. framed-as (loop2 .places) (loop2 .on) (loop2 .risk) (loop2 .counts) (lowest .result) (pulse-at .result) (w .4 .result) (loop2 .places) (w .12 .places) (loop2 .on) (w .12 .on) (loop2 .risk) (w .12 .risk) (w .8 .result) (framed-shut (loop2 .places) (loop2 .on) (loop2 .risk) (loop2 .counts) (lowest .result) (pulse-at .result) (w .4 .result) size (lowest .ensures .below) (omega (arith, ap (λ (q : Pulse). q .tick .0) (w .4 .ensures), tick-of .ensures .0, w .1 .ensures .1)) (w .5 .result) (w .5 .ensures) (w .6 .result) (w .6 .ensures) (w .7 .result) (w .7 .ensures) (w .9 .result) (w .9 .ensures) (λ z. omega (arith, w .10 .left)) (w .8 .result) (w .8 .ensures) (w .11 .result) (w .11 .ensures) (v .0 .left)) (v .1) (v .2) (v .3)))
+    (top .ensures) (w .13 .ensures) (w .14 .ensures) (w .15) (w .16) (w .17) (w .18) (w .19))
+    (λ w. stood-plain (span-of .result) (lowest .result) (tick-of .result) (args .recent .now) (args .base) (args .values .now) (framed .result) (framed .ensures) (block-length .result) (pulse-at .result) (loop2 .places) (loop2 .on) (loop2 .risk) (loop2 .counts) (loop2 .todo) (loop2 .from) (loop2 .inv .todos) (lowest .ensures) (w .0 .left) (if4 .places) (if4 .on) (if4 .risk) (if4 .counts) (if4 .todo) (w .1 .result) (w .1 .ensures) (w .2) (w .3) (w .4) (w .5) (w .6)) in
+    let dealt : Dealt (if4 .places) (if4 .on) (lowest .result) (pulse-at .result) (if10 .places) = (deals-four (if4 .places) (if8 .places) (if9 .places) (if10 .places) _ (if4 .on) (lowest .result) (pulse-at .result) (stood .size ∙ size) (marked3 .result) (marked4 .result) (marked5 .result) (marked6 .result) (marked3 .ensures) (marked4 .ensures) (marked5 .ensures) (marked6 .ensures) (voices-of .result) (voices-of .ensures)
+    (either (if8 .came)
+    (λ w. turns-did (marked3 .result) 0 (pulse-at .result) (voices-of .result .a) (any3 (voices-of .result .b) (voices-of .result .c) (voices-of .result .d)) (w .2 .result) (if4 .places) (if8 .places) (w .3 .result) (w .0 .taken) (w .4) (w .3 .ensures) (w .2 .ensures))
+    (λ w. turns-not (marked3 .result) 0 (pulse-at .result) (voices-of .result .a) (any3 (voices-of .result .b) (voices-of .result .c) (voices-of .result .d)) (if4 .places) (if8 .places) (w .0 .left) (w .1)))
+    (either (if9 .came)
+    (λ w. turns-did (marked4 .result) 1 (pulse-at .result) (voices-of .result .b) (any3 (voices-of .result .a) (voices-of .result .c) (voices-of .result .d)) (w .2 .result) (if8 .places) (if9 .places) (w .3 .result) (w .0 .taken) (w .4) (w .3 .ensures) (w .2 .ensures))
+    (λ w. turns-not (marked4 .result) 1 (pulse-at .result) (voices-of .result .b) (any3 (voices-of .result .a) (voices-of .result .c) (voices-of .result .d)) (if8 .places) (if9 .places) (w .0 .left) (w .1)))
+    (either (if10 .came)
+    (λ w. turns-did (marked5 .result) 2 (pulse-at .result) (voices-of .result .c) (any3 (voices-of .result .a) (voices-of .result .b) (voices-of .result .d)) (w .2 .result) (if9 .places) (if10 .places) (w .3 .result) (w .0 .taken) (w .4) (w .3 .ensures) (w .2 .ensures))
+    (λ w. turns-not (marked5 .result) 2 (pulse-at .result) (voices-of .result .c) (any3 (voices-of .result .a) (voices-of .result .b) (voices-of .result .d)) (if9 .places) (if10 .places) (w .0 .left) (w .1)))
+    (turns-not (marked6 .result) 3 (pulse-at .result) (voices-of .result .d) (any3 (voices-of .result .a) (voices-of .result .b) (voices-of .result .c)) (if10 .places) (if10 .places) (if11 .left) refl)) in
+    work-taken (machineIn (loop .places) (loop .counts)) (span-of .result) (block-length .result) _ (args .recent .now) (args .base) (args .values .now) (loop .at) (loop .out) (loop2 .out) (loop2 .places) (loop2 .on) (loop2 .risk) (loop2 .counts) (loop2 .at) (loop2 .todo) (loop2 .from) (loop2 .inv) (lowest .result) (tick-of .result) (lowest .ensures) (tick-of .ensures .1) (is-over .result) (is-over .ensures) (if3 .left) (pulse-at .result) (pulse-as (span-of .result .main) (lowest .result) (tick-of .result) (args .recent .now) (args .base) (args .values .now) (marked .result) (pulse-at .result) (marked .ensures) (pulse-at .ensures)) (bracketIn (span-of .result) (lowest .result) (tick-of .result) (args .recent .now) (args .base) (args .values .now)) refl _ (if4 .on) (if4 .risk) (if4 .counts) (stood .visits _ (dealt .deal)) (if4 .todo) (stood .todos) (dealt .size ∙ stood .size ∙ size)
+
+any-word-requires : tie.Need-any-word-requires Inv-loop2 μ-loop2 Inv-loop3 μ-loop3 Inv-loop μ-loop
+any-word-requires c κs = search needs
+
+marked-requires-7 : tie.Need-marked-requires-7 Inv-loop2 μ-loop2 Inv-loop3 μ-loop3 Inv-loop μ-loop
+marked-requires-7 c κs = search needs
+
+which-requires : tie.Need-which-requires Inv-loop2 μ-loop2 Inv-loop3 μ-loop3 Inv-loop μ-loop
+which-requires c κs = search needs
+
+mul-q : tie.Need-mul-q Inv-loop2 μ-loop2 Inv-loop3 μ-loop3 Inv-loop μ-loop
+mul-q c = search needs
+
+array-copy-out-q-5 :
+    tie.Need-array-copy-out-q-5 Inv-loop2 μ-loop2 Inv-loop3 μ-loop3 Inv-loop μ-loop
+array-copy-out-q-5 c = search needs
+
+speaks-requires : tie.Need-speaks-requires Inv-loop2 μ-loop2 Inv-loop3 μ-loop3 Inv-loop μ-loop
+speaks-requires c κs = search needs
+
+heard-requires-5 : tie.Need-heard-requires-5 Inv-loop2 μ-loop2 Inv-loop3 μ-loop3 Inv-loop μ-loop
+heard-requires-5 c κs = search needs
+
+mul-places-2 : tie.Need-mul-places-2 Inv-loop2 μ-loop2 Inv-loop3 μ-loop3 Inv-loop μ-loop
+mul-places-2 c = search needs
+
+array-set-from-places-6 :
+    tie.Need-array-set-from-places-6 Inv-loop2 μ-loop2 Inv-loop3 μ-loop3 Inv-loop μ-loop
+array-set-from-places-6 c = search needs
+
+loop2-less-5 : tie.Need-loop2-less-5 Inv-loop2 μ-loop2 Inv-loop3 μ-loop3 Inv-loop μ-loop
+loop2-less-5 c =
+    let heard5 = c .heard5 in
+    let which = c .before .before .before .which in
+    let if4 = c .before .before .before .before .before .before .before .before .before .before .if4 in
+    let tick-of = c .before .before .before .before .before .before .before .before .before .before .before .before .before .before .before .before .before .tick-of in
+    let lowest = c .before .before .before .before .before .before .before .before .before .before .before .before .before .before .before .before .before .before .lowest in
+    let loop2 = c .before .before .before .before .before .before .before .before .before .before .before .before .before .before .before .before .before .before .before .before .loop2 in
+    let span-of = c .before .before .before .before .before .before .before .before .before .before .before .before .before .before .before .before .before .before .before .before .before .before .before .before .before .before .before .before .span-of in
+    let block-length = c .before .before .before .before .before .before .before .before .before .before .before .before .before .before .before .before .before .before .before .before .before .before .before .before .before .before .before .before .before .before .before .before .before .before .block-length in
+    let loop = c .before .before .before .before .before .before .before .before .before .before .before .before .before .before .before .before .before .before .before .before .before .before .before .before .before .before .before .before .before .before .before .before .before .before .before .before .loop in
+    let args = c .before .before .before .before .before .before .before .before .before .before .before .before .before .before .before .before .before .before .before .before .before .before .before .before .before .before .before .before .before .before .before .before .before .before .before .before .before .before .before .before .before .before .before .before .args in
+    turn-taken (loop2 .from) (lowest .result) (loop2 .places) (set (if4 .places) (which .result) (heard5 .result)) (loop2 .risk) (if4 .risk) (first-from (machineIn (loop .places) (loop .counts)) (span-of .result) (block-length .result) _ (args .recent .now) (args .base) (args .values .now) (loop .at) (loop .out) (loop2 .out) (loop2 .places) (loop2 .on) (loop2 .risk) (loop2 .counts) (loop2 .at) (loop2 .todo) (loop2 .from) (loop2 .inv) (lowest .result) (tick-of .result) (lowest .ensures) (tick-of .ensures .1)) (lowest .ensures .below)
+
+loop2-again-5 : tie.Need-loop2-again-5 Inv-loop2 μ-loop2 Inv-loop3 μ-loop3 Inv-loop μ-loop
+loop2-again-5 c =
+    let heard5 = c .heard5 in
+    let speaks = c .before .speaks in
+    let which = c .before .before .before .which in
+    let if12 = c .before .before .before .before .if12 in
+    let marked7 = c .before .before .before .before .before .marked7 in
+    let any-word = c .before .before .before .before .before .before .any-word in
+    let if7 = c .before .before .before .before .before .before .before .if7 in
+    let marked2 = c .before .before .before .before .before .before .before .before .marked2 in
+    let twice = c .before .before .before .before .before .before .before .before .before .twice in
+    let if4 = c .before .before .before .before .before .before .before .before .before .before .if4 in
+    let framed = c .before .before .before .before .before .before .before .before .before .before .before .framed in
+    let pulse-at = c .before .before .before .before .before .before .before .before .before .before .before .before .pulse-at in
+    let marked = c .before .before .before .before .before .before .before .before .before .before .before .before .before .marked in
+    let if3 = c .before .before .before .before .before .before .before .before .before .before .before .before .before .before .if3 in
+    let is-over = c .before .before .before .before .before .before .before .before .before .before .before .before .before .before .before .is-over in
+    let tick-of = c .before .before .before .before .before .before .before .before .before .before .before .before .before .before .before .before .before .tick-of in
+    let lowest = c .before .before .before .before .before .before .before .before .before .before .before .before .before .before .before .before .before .before .lowest in
+    let loop2 = c .before .before .before .before .before .before .before .before .before .before .before .before .before .before .before .before .before .before .before .before .loop2 in
+    let top = c .before .before .before .before .before .before .before .before .before .before .before .before .before .before .before .before .before .before .before .before .before .before .before .before .before .before .before .top in
+    let span-of = c .before .before .before .before .before .before .before .before .before .before .before .before .before .before .before .before .before .before .before .before .before .before .before .before .before .before .before .before .span-of in
+    let block-length = c .before .before .before .before .before .before .before .before .before .before .before .before .before .before .before .before .before .before .before .before .before .before .before .before .before .before .before .before .before .before .before .before .before .before .block-length in
+    let loop = c .before .before .before .before .before .before .before .before .before .before .before .before .before .before .before .before .before .before .before .before .before .before .before .before .before .before .before .before .before .before .before .before .before .before .before .before .loop in
+    let args = c .before .before .before .before .before .before .before .before .before .before .before .before .before .before .before .before .before .before .before .before .before .before .before .before .before .before .before .before .before .before .before .before .before .before .before .before .before .before .before .before .before .before .before .before .args in
+    let size : length (loop2 .places) ≡ 4 = loop2 .inv .size in
+    let stood : Stood (span-of .result) (lowest .result) (tick-of .result) (args .recent .now) (args .base) (args .values .now) (framed .result) (framed .ensures) (block-length .result) (pulse-at .result) (loop2 .places) (loop2 .on) (loop2 .risk) (loop2 .counts) (loop2 .todo) (loop2 .from) (loop2 .inv .todos) (lowest .ensures) (if4 .places) (if4 .on) (if4 .risk) (if4 .counts) (if4 .todo) =
+    either (if4 .came)
+    (λ w. stood-framed (span-of .result) (lowest .result) (tick-of .result) (args .recent .now) (args .base) (args .values .now) (framed .result) (framed .ensures) (block-length .result) (pulse-at .result) (loop2 .places) (loop2 .on) (loop2 .risk) (loop2 .counts) (loop2 .todo) (loop2 .from) (loop2 .inv .todos) (lowest .ensures) (w .4 .result)
+    (second-as (span-of .result) (lowest .result) (tick-of .result) (args .recent .now) (args .base) (args .values .now) (framed .result) (framed .ensures) (w .0 .taken) (w .3 .result) (w .3 .ensures) (w .1 .result) (w .1 .ensures .0) (w .4 .result) (w .4 .ensures))
+    (if4 .places) (if4 .on) (if4 .risk) (if4 .counts) (if4 .todo) (top .result) (w .13 .result) (w .14 .result) (w .12 .places) (w .12 .on) (w .12 .risk) (w .8 .result)
+    (either (w .12 .came)
+    (λ v. framed-as (loop2 .places) (loop2 .on) (loop2 .risk) (loop2 .counts) (lowest .result) (pulse-at .result) (w .4 .result) _ (w .12 .places) (v .5 .result) (w .12 .on) (v .7 .result) (w .12 .risk) (w .8 .result)
+    (framed-opens (loop2 .places) (loop2 .on) (loop2 .risk) (loop2 .counts) (lowest .result) (pulse-at .result) (w .4 .result) size (lowest .ensures .below) (omega (arith, ap (λ (q : Pulse). q .tick .0) (w .4 .ensures), tick-of .ensures .0, w .1 .ensures .1)) (w .5 .result) (w .5 .ensures) (w .6 .result) (w .6 .ensures) (w .7 .result) (w .7 .ensures) (w .9 .result) (w .9 .ensures) (λ z. omega (arith, w .10 .left)) (w .8 .result) (w .8 .ensures) (w .11 .result) (w .11 .ensures) (v .0 .taken) (v .1 .result) (v .1 .ensures) (v .3 .result) (v .3 .ensures .0) (v .3 .ensures .1) (v .4 .result) (v .6 .result) (v .4 .ensures) (v .6 .ensures) (v .5 .result) (v .7 .result) (v .5 .ensures) (v .7 .ensures) _ refl) (v .8) (v .9) (v .10))
+    (λ v. framed-as (loop2 .places) (loop2 .on) (loop2 .risk) (loop2 .counts) (lowest .result) (pulse-at .result) (w .4 .result) (loop2 .places) (w .12 .places) (loop2 .on) (w .12 .on) (loop2 .risk) (w .12 .risk) (w .8 .result) (framed-shut (loop2 .places) (loop2 .on) (loop2 .risk) (loop2 .counts) (lowest .result) (pulse-at .result) (w .4 .result) size (lowest .ensures .below) (omega (arith, ap (λ (q : Pulse). q .tick .0) (w .4 .ensures), tick-of .ensures .0, w .1 .ensures .1)) (w .5 .result) (w .5 .ensures) (w .6 .result) (w .6 .ensures) (w .7 .result) (w .7 .ensures) (w .9 .result) (w .9 .ensures) (λ z. omega (arith, w .10 .left)) (w .8 .result) (w .8 .ensures) (w .11 .result) (w .11 .ensures) (v .0 .left)) (v .1) (v .2) (v .3)))
+    (top .ensures) (w .13 .ensures) (w .14 .ensures) (w .15) (w .16) (w .17) (w .18) (w .19))
+    (λ w. stood-plain (span-of .result) (lowest .result) (tick-of .result) (args .recent .now) (args .base) (args .values .now) (framed .result) (framed .ensures) (block-length .result) (pulse-at .result) (loop2 .places) (loop2 .on) (loop2 .risk) (loop2 .counts) (loop2 .todo) (loop2 .from) (loop2 .inv .todos) (lowest .ensures) (w .0 .left) (if4 .places) (if4 .on) (if4 .risk) (if4 .counts) (if4 .todo) (w .1 .result) (w .1 .ensures) (w .2) (w .3) (w .4) (w .5) (w .6)) in
+    let dealt : Dealt (if4 .places) (if4 .on) (lowest .result) (pulse-at .result) (set (if4 .places) (which .result) (heard5 .result)) = (deals-one (if4 .places) (if4 .on) (lowest .result) (pulse-at .result) (stood .size ∙ size) (twice .result) (any-word .result) (which .result) (marked2 .result) (marked7 .result) (speaks .result) (heard5 .result) (twice .ensures) (marked2 .ensures) (if7 .left) (any-word .ensures) (marked7 .ensures) (if12 .taken) (which .ensures .0) (speaks .ensures) (heard5 .ensures)) in
+    work-taken (machineIn (loop .places) (loop .counts)) (span-of .result) (block-length .result) _ (args .recent .now) (args .base) (args .values .now) (loop .at) (loop .out) (loop2 .out) (loop2 .places) (loop2 .on) (loop2 .risk) (loop2 .counts) (loop2 .at) (loop2 .todo) (loop2 .from) (loop2 .inv) (lowest .result) (tick-of .result) (lowest .ensures) (tick-of .ensures .1) (is-over .result) (is-over .ensures) (if3 .left) (pulse-at .result) (pulse-as (span-of .result .main) (lowest .result) (tick-of .result) (args .recent .now) (args .base) (args .values .now) (marked .result) (pulse-at .result) (marked .ensures) (pulse-at .ensures)) (bracketIn (span-of .result) (lowest .result) (tick-of .result) (args .recent .now) (args .base) (args .values .now)) refl _ (if4 .on) (if4 .risk) (if4 .counts) (stood .visits _ (dealt .deal)) (if4 .todo) (stood .todos) (dealt .size ∙ stood .size ∙ size)
+
+loop2-less-6 : tie.Need-loop2-less-6 Inv-loop2 μ-loop2 Inv-loop3 μ-loop3 Inv-loop μ-loop
+loop2-less-6 c =
+    let if4 = c .before .before .before .before .before .before .if4 in
+    let tick-of = c .before .before .before .before .before .before .before .before .before .before .before .before .before .tick-of in
+    let lowest = c .before .before .before .before .before .before .before .before .before .before .before .before .before .before .lowest in
+    let loop2 = c .before .before .before .before .before .before .before .before .before .before .before .before .before .before .before .before .loop2 in
+    let span-of = c .before .before .before .before .before .before .before .before .before .before .before .before .before .before .before .before .before .before .before .before .before .before .before .before .span-of in
+    let block-length = c .before .before .before .before .before .before .before .before .before .before .before .before .before .before .before .before .before .before .before .before .before .before .before .before .before .before .before .before .before .before .block-length in
+    let loop = c .before .before .before .before .before .before .before .before .before .before .before .before .before .before .before .before .before .before .before .before .before .before .before .before .before .before .before .before .before .before .before .before .loop in
+    let args = c .before .before .before .before .before .before .before .before .before .before .before .before .before .before .before .before .before .before .before .before .before .before .before .before .before .before .before .before .before .before .before .before .before .before .before .before .before .before .before .before .args in
+    turn-taken (loop2 .from) (lowest .result) (loop2 .places) (if4 .places) (loop2 .risk) (if4 .risk) (first-from (machineIn (loop .places) (loop .counts)) (span-of .result) (block-length .result) _ (args .recent .now) (args .base) (args .values .now) (loop .at) (loop .out) (loop2 .out) (loop2 .places) (loop2 .on) (loop2 .risk) (loop2 .counts) (loop2 .at) (loop2 .todo) (loop2 .from) (loop2 .inv) (lowest .result) (tick-of .result) (lowest .ensures) (tick-of .ensures .1)) (lowest .ensures .below)
+
+loop2-again-6 : tie.Need-loop2-again-6 Inv-loop2 μ-loop2 Inv-loop3 μ-loop3 Inv-loop μ-loop
+loop2-again-6 c =
+    let if12 = c .if12 in
+    let marked7 = c .before .marked7 in
+    let any-word = c .before .before .any-word in
+    let if4 = c .before .before .before .before .before .before .if4 in
+    let framed = c .before .before .before .before .before .before .before .framed in
+    let pulse-at = c .before .before .before .before .before .before .before .before .pulse-at in
+    let marked = c .before .before .before .before .before .before .before .before .before .marked in
+    let if3 = c .before .before .before .before .before .before .before .before .before .before .if3 in
+    let is-over = c .before .before .before .before .before .before .before .before .before .before .before .is-over in
+    let tick-of = c .before .before .before .before .before .before .before .before .before .before .before .before .before .tick-of in
+    let lowest = c .before .before .before .before .before .before .before .before .before .before .before .before .before .before .lowest in
+    let loop2 = c .before .before .before .before .before .before .before .before .before .before .before .before .before .before .before .before .loop2 in
+    let top = c .before .before .before .before .before .before .before .before .before .before .before .before .before .before .before .before .before .before .before .before .before .before .before .top in
+    let span-of = c .before .before .before .before .before .before .before .before .before .before .before .before .before .before .before .before .before .before .before .before .before .before .before .before .span-of in
+    let block-length = c .before .before .before .before .before .before .before .before .before .before .before .before .before .before .before .before .before .before .before .before .before .before .before .before .before .before .before .before .before .before .block-length in
+    let loop = c .before .before .before .before .before .before .before .before .before .before .before .before .before .before .before .before .before .before .before .before .before .before .before .before .before .before .before .before .before .before .before .before .loop in
+    let args = c .before .before .before .before .before .before .before .before .before .before .before .before .before .before .before .before .before .before .before .before .before .before .before .before .before .before .before .before .before .before .before .before .before .before .before .before .before .before .before .before .args in
+    let size : length (loop2 .places) ≡ 4 = loop2 .inv .size in
+    let stood : Stood (span-of .result) (lowest .result) (tick-of .result) (args .recent .now) (args .base) (args .values .now) (framed .result) (framed .ensures) (block-length .result) (pulse-at .result) (loop2 .places) (loop2 .on) (loop2 .risk) (loop2 .counts) (loop2 .todo) (loop2 .from) (loop2 .inv .todos) (lowest .ensures) (if4 .places) (if4 .on) (if4 .risk) (if4 .counts) (if4 .todo) =
+    either (if4 .came)
+    (λ w. stood-framed (span-of .result) (lowest .result) (tick-of .result) (args .recent .now) (args .base) (args .values .now) (framed .result) (framed .ensures) (block-length .result) (pulse-at .result) (loop2 .places) (loop2 .on) (loop2 .risk) (loop2 .counts) (loop2 .todo) (loop2 .from) (loop2 .inv .todos) (lowest .ensures) (w .4 .result)
+    (second-as (span-of .result) (lowest .result) (tick-of .result) (args .recent .now) (args .base) (args .values .now) (framed .result) (framed .ensures) (w .0 .taken) (w .3 .result) (w .3 .ensures) (w .1 .result) (w .1 .ensures .0) (w .4 .result) (w .4 .ensures))
+    (if4 .places) (if4 .on) (if4 .risk) (if4 .counts) (if4 .todo) (top .result) (w .13 .result) (w .14 .result) (w .12 .places) (w .12 .on) (w .12 .risk) (w .8 .result)
+    (either (w .12 .came)
+    (λ v. framed-as (loop2 .places) (loop2 .on) (loop2 .risk) (loop2 .counts) (lowest .result) (pulse-at .result) (w .4 .result) _ (w .12 .places) (v .5 .result) (w .12 .on) (v .7 .result) (w .12 .risk) (w .8 .result)
+    (framed-opens (loop2 .places) (loop2 .on) (loop2 .risk) (loop2 .counts) (lowest .result) (pulse-at .result) (w .4 .result) size (lowest .ensures .below) (omega (arith, ap (λ (q : Pulse). q .tick .0) (w .4 .ensures), tick-of .ensures .0, w .1 .ensures .1)) (w .5 .result) (w .5 .ensures) (w .6 .result) (w .6 .ensures) (w .7 .result) (w .7 .ensures) (w .9 .result) (w .9 .ensures) (λ z. omega (arith, w .10 .left)) (w .8 .result) (w .8 .ensures) (w .11 .result) (w .11 .ensures) (v .0 .taken) (v .1 .result) (v .1 .ensures) (v .3 .result) (v .3 .ensures .0) (v .3 .ensures .1) (v .4 .result) (v .6 .result) (v .4 .ensures) (v .6 .ensures) (v .5 .result) (v .7 .result) (v .5 .ensures) (v .7 .ensures) _ refl) (v .8) (v .9) (v .10))
+    (λ v. framed-as (loop2 .places) (loop2 .on) (loop2 .risk) (loop2 .counts) (lowest .result) (pulse-at .result) (w .4 .result) (loop2 .places) (w .12 .places) (loop2 .on) (w .12 .on) (loop2 .risk) (w .12 .risk) (w .8 .result) (framed-shut (loop2 .places) (loop2 .on) (loop2 .risk) (loop2 .counts) (lowest .result) (pulse-at .result) (w .4 .result) size (lowest .ensures .below) (omega (arith, ap (λ (q : Pulse). q .tick .0) (w .4 .ensures), tick-of .ensures .0, w .1 .ensures .1)) (w .5 .result) (w .5 .ensures) (w .6 .result) (w .6 .ensures) (w .7 .result) (w .7 .ensures) (w .9 .result) (w .9 .ensures) (λ z. omega (arith, w .10 .left)) (w .8 .result) (w .8 .ensures) (w .11 .result) (w .11 .ensures) (v .0 .left)) (v .1) (v .2) (v .3)))
+    (top .ensures) (w .13 .ensures) (w .14 .ensures) (w .15) (w .16) (w .17) (w .18) (w .19))
+    (λ w. stood-plain (span-of .result) (lowest .result) (tick-of .result) (args .recent .now) (args .base) (args .values .now) (framed .result) (framed .ensures) (block-length .result) (pulse-at .result) (loop2 .places) (loop2 .on) (loop2 .risk) (loop2 .counts) (loop2 .todo) (loop2 .from) (loop2 .inv .todos) (lowest .ensures) (w .0 .left) (if4 .places) (if4 .on) (if4 .risk) (if4 .counts) (if4 .todo) (w .1 .result) (w .1 .ensures) (w .2) (w .3) (w .4) (w .5) (w .6)) in
+    let dealt : Dealt (if4 .places) (if4 .on) (lowest .result) (pulse-at .result) (if4 .places) = (deals-none (if4 .places) (if4 .on) (lowest .result) (pulse-at .result) (stood .size ∙ size) (any-word .result) (marked7 .result) (any-word .ensures) (marked7 .ensures) (if12 .left)) in
+    work-taken (machineIn (loop .places) (loop .counts)) (span-of .result) (block-length .result) _ (args .recent .now) (args .base) (args .values .now) (loop .at) (loop .out) (loop2 .out) (loop2 .places) (loop2 .on) (loop2 .risk) (loop2 .counts) (loop2 .at) (loop2 .todo) (loop2 .from) (loop2 .inv) (lowest .result) (tick-of .result) (lowest .ensures) (tick-of .ensures .1) (is-over .result) (is-over .ensures) (if3 .left) (pulse-at .result) (pulse-as (span-of .result .main) (lowest .result) (tick-of .result) (args .recent .now) (args .base) (args .values .now) (marked .result) (pulse-at .result) (marked .ensures) (pulse-at .ensures)) (bracketIn (span-of .result) (lowest .result) (tick-of .result) (args .recent .now) (args .base) (args .values .now)) refl _ (if4 .on) (if4 .risk) (if4 .counts) (stood .visits _ (dealt .deal)) (if4 .todo) (stood .todos) (dealt .size ∙ stood .size ∙ size)
+
+loop3-holds : tie.Need-loop3-holds Inv-loop2 μ-loop2 Inv-loop3 μ-loop3 Inv-loop μ-loop
+loop3-holds c =
+    let loop2 = c .before .loop2 in
+    let block-length = c .before .before .before .before .before .before .before .before .before .before .before .before .before .before .before .block-length in
+    let args = c .before .before .before .before .before .before .before .before .before .before .before .before .before .before .before .before .before .before .before .before .before .before .before .before .before .args in
+    hands-none (block-length .result) _ (args .recent .now) (args .base) (args .values .now) (loop2 .counts) (loop2 .out) (loop2 .places) (loop2 .at)
+
+array-copy-out-none-due-2 :
+    tie.Need-array-copy-out-none-due-2 Inv-loop2 μ-loop2 Inv-loop3 μ-loop3 Inv-loop μ-loop
+array-copy-out-none-due-2 c = search needs
+
+none-due-requires-2 :
+    tie.Need-none-due-requires-2 Inv-loop2 μ-loop2 Inv-loop3 μ-loop3 Inv-loop μ-loop
+none-due-requires-2 c κs = search needs
+
+loop-less-3 : tie.Need-loop-less-3 Inv-loop2 μ-loop2 Inv-loop3 μ-loop3 Inv-loop μ-loop
+loop-less-3 c =
+    let block-length = c .before .before .before .before .before .before .before .before .before .before .before .before .before .before .before .before .before .before .before .block-length in
+    let test1 = c .before .before .before .before .before .before .before .before .before .before .before .before .before .before .before .before .before .before .before .before .loop-test in
+    let loop = c .before .before .before .before .before .before .before .before .before .before .before .before .before .before .before .before .before .before .before .before .before .loop in
+    omega (arith, block-length .ensures .1 .1 .0, block-length .ensures .1 .1 .1 (omega (arith, test1 .taken)), loop .inv .1 .most)
+
+loop-again-3 : tie.Need-loop-again-3 Inv-loop2 μ-loop2 Inv-loop3 μ-loop3 Inv-loop μ-loop
+loop-again-3 c =
+    let if13 = c .if13 in
+    let none-due2 = c .before .none-due2 in
+    let loop3 = c .before .before .before .loop3 in
+    let test2 = c .before .before .before .before .loop2-test in
+    let loop2 = c .before .before .before .before .before .loop2 in
+    let span-of = c .before .before .before .before .before .before .before .before .before .before .before .before .before .span-of in
+    let advance = c .before .before .before .before .before .before .before .before .before .before .before .before .before .before .advance in
+    let packed = c .before .before .before .before .before .before .before .before .before .before .before .before .before .before .before .before .before .before .packed in
+    let block-length = c .before .before .before .before .before .before .before .before .before .before .before .before .before .before .before .before .before .before .before .block-length in
+    let test1 = c .before .before .before .before .before .before .before .before .before .before .before .before .before .before .before .before .before .before .before .before .loop-test in
+    let loop = c .before .before .before .before .before .before .before .before .before .before .before .before .before .before .before .before .before .before .before .before .before .loop in
+    let array-of = c .before .before .before .before .before .before .before .before .before .before .before .before .before .before .before .before .before .before .before .before .before .before .before .array-of in
+    let args = c .before .before .before .before .before .before .before .before .before .before .before .before .before .before .before .before .before .before .before .before .before .before .before .before .before .before .before .before .before .args in
+    let o : Progress = record { front = loop .front; machine = machineIn (loop .places) (loop .counts); at = loop .at } in
+    let m = machineIn (loop3 .places) (loop2 .counts) in
+    (loop3 .inv .size (loop2 .inv .size),
+    feed-next (record { front = args .o .front; machine = machineIn (array-of .result) (args .o .machine .counts); at = args .o .at }) (args .recent .now) (args .base) (args .flags .now) (args .values .now) (args .out .now)
+    (loop .out) o (loop .done) (block-length .result) _ (packed .result) (record { front = advance .result; machine = m; at = loop3 .at }) (loop3 .out) (omega (arith, block-length .ensures .1 .1 .0, test1 .taken)) refl (packed .ensures)
+    (block-law o (packed .result) (block-length .result) _ (args .recent .now) (args .base) (args .values .now) (loop .out) (advance .result) (span-of .result) m (loop3 .at) (loop3 .out) (advance .ensures) (span-of .ensures)
+    (end-works (machineIn (loop .places) (loop .counts)) (span-of .result) (block-length .result) _ (args .recent .now) (args .base) (args .values .now) (loop .at) (loop .out) (loop3 .out) (loop3 .places) (loop2 .counts) (loop3 .at)
+    (loop3 .inv .ends (machineIn (loop .places) (loop .counts)) (span-of .result) (loop .at) (loop .out) (end-start (machineIn (loop .places) (loop .counts)) (span-of .result) (block-length .result) _ (args .recent .now) (args .base) (args .values .now) (loop .at) (loop .out) (loop2 .out) (loop2 .places) (loop2 .on) (loop2 .risk) (loop2 .counts) (loop2 .at) (loop2 .todo) (loop2 .from) (loop2 .inv) (test2 .left)))
+    (sym (none-due2 .ensures) ∙ not-false _ (if13 .left))))
+    (loop .inv .1))
+
+array-copy-out-hand-one-2 :
+    tie.Need-array-copy-out-hand-one-2 Inv-loop2 μ-loop2 Inv-loop3 μ-loop3 Inv-loop μ-loop
+array-copy-out-hand-one-2 c = search needs
+
+sub-t155 : tie.Need-sub-t155 Inv-loop2 μ-loop2 Inv-loop3 μ-loop3 Inv-loop μ-loop
+sub-t155 c =
+    let if13 = c .before .if13 in
+    let none-due2 = c .before .before .none-due2 in
+    let loop3 = c .before .before .before .before .loop3 in
+    due-over (getD (loop3 .places) 0 idle) _ (sym (none-due2 .ensures) ∙ not-true _ (if13 .taken)) .0
+
+hand-one-requires-2 :
+    tie.Need-hand-one-requires-2 Inv-loop2 μ-loop2 Inv-loop3 μ-loop3 Inv-loop μ-loop
+hand-one-requires-2 c κs = search needs
+
+array-copy-out-kept-7 :
+    tie.Need-array-copy-out-kept-7 Inv-loop2 μ-loop2 Inv-loop3 μ-loop3 Inv-loop μ-loop
+array-copy-out-kept-7 c = search needs
+
+kept-requires-7 : tie.Need-kept-requires-7 Inv-loop2 μ-loop2 Inv-loop3 μ-loop3 Inv-loop μ-loop
+kept-requires-7 c κs = search needs
+
+array-copy-out-kept-8 :
+    tie.Need-array-copy-out-kept-8 Inv-loop2 μ-loop2 Inv-loop3 μ-loop3 Inv-loop μ-loop
+array-copy-out-kept-8 c = search needs
+
+kept-requires-8 : tie.Need-kept-requires-8 Inv-loop2 μ-loop2 Inv-loop3 μ-loop3 Inv-loop μ-loop
+kept-requires-8 c κs = search needs
+
+array-copy-out-kept-9 :
+    tie.Need-array-copy-out-kept-9 Inv-loop2 μ-loop2 Inv-loop3 μ-loop3 Inv-loop μ-loop
+array-copy-out-kept-9 c = search needs
+
+kept-requires-9 : tie.Need-kept-requires-9 Inv-loop2 μ-loop2 Inv-loop3 μ-loop3 Inv-loop μ-loop
+kept-requires-9 c κs = search needs
+
+idle-place-requires-3 :
+    tie.Need-idle-place-requires-3 Inv-loop2 μ-loop2 Inv-loop3 μ-loop3 Inv-loop μ-loop
+idle-place-requires-3 c κs = search needs
+
+loop3-less : tie.Need-loop3-less Inv-loop2 μ-loop2 Inv-loop3 μ-loop3 Inv-loop μ-loop
+loop3-less c =
+    let idle-place3 = c .idle-place3 in
+    let kept9 = c .before .kept9 in
+    let kept8 = c .before .before .before .kept8 in
+    let kept7 = c .before .before .before .before .before .kept7 in
+    let if13 = c .before .before .before .before .before .before .before .before .before .before .before .before .if13 in
+    let none-due2 = c .before .before .before .before .before .before .before .before .before .before .before .before .before .none-due2 in
+    let loop3 = c .before .before .before .before .before .before .before .before .before .before .before .before .before .before .before .loop3 in
+    let block-length = c .before .before .before .before .before .before .before .before .before .before .before .before .before .before .before .before .before .before .before .before .before .before .before .before .before .before .before .before .before .before .before .block-length in
+    let loop = c .before .before .before .before .before .before .before .before .before .before .before .before .before .before .before .before .before .before .before .before .before .before .before .before .before .before .before .before .before .before .before .before .before .loop in
+    let args = c .before .before .before .before .before .before .before .before .before .before .before .before .before .before .before .before .before .before .before .before .before .before .before .before .before .before .before .before .before .before .before .before .before .before .before .before .before .before .before .before .before .args in
+    hand-less (ended (args .base + (loop .done + block-length .result) - 179)) (loop3 .places) _ (due-over (getD (loop3 .places) 0 idle) _ (sym (none-due2 .ensures) ∙ not-true _ (if13 .taken)) .1) (four-places _ _ _ _ _ _ _ _ (kept7 .ensures) (kept8 .ensures) (kept9 .ensures) (idle-place3 .ensures))
+
+loop3-again : tie.Need-loop3-again Inv-loop2 μ-loop2 Inv-loop3 μ-loop3 Inv-loop μ-loop
+loop3-again c =
+    let idle-place3 = c .idle-place3 in
+    let kept9 = c .before .kept9 in
+    let kept8 = c .before .before .before .kept8 in
+    let kept7 = c .before .before .before .before .before .kept7 in
+    let hand-one2 = c .before .before .before .before .before .before .before .before .before .hand-one2 in
+    let if13 = c .before .before .before .before .before .before .before .before .before .before .before .before .if13 in
+    let none-due2 = c .before .before .before .before .before .before .before .before .before .before .before .before .before .none-due2 in
+    let loop3 = c .before .before .before .before .before .before .before .before .before .before .before .before .before .before .before .loop3 in
+    let loop2 = c .before .before .before .before .before .before .before .before .before .before .before .before .before .before .before .before .before .loop2 in
+    let block-length = c .before .before .before .before .before .before .before .before .before .before .before .before .before .before .before .before .before .before .before .before .before .before .before .before .before .before .before .before .before .before .before .block-length in
+    let args = c .before .before .before .before .before .before .before .before .before .before .before .before .before .before .before .before .before .before .before .before .before .before .before .before .before .before .before .before .before .before .before .before .before .before .before .before .before .before .before .before .before .args in
+    hands-more (block-length .result) _ (args .recent .now) (args .base) (args .values .now) (loop2 .counts) (loop2 .out) (loop2 .places) (loop2 .at) (loop3 .out) (loop3 .places) (loop3 .at) (loop3 .inv) (sym (none-due2 .ensures) ∙ not-true _ (if13 .taken)) (hand-one2 .result) _ (hand-one2 .kept .1 .1 .0) (hand-one2 .ensures) _ (four-places _ _ _ _ _ _ _ _ (kept7 .ensures) (kept8 .ensures) (kept9 .ensures) (idle-place3 .ensures))
+
+places-of-requires :
+    tie.Need-places-of-requires Inv-loop2 μ-loop2 Inv-loop3 μ-loop3 Inv-loop μ-loop
+places-of-requires c κs = search needs
+
+same-length : tie.Need-same-length Inv-loop2 μ-loop2 Inv-loop3 μ-loop3 Inv-loop μ-loop
+same-length c = search needs
+
+returns : tie.Need-returns Inv-loop2 μ-loop2 Inv-loop3 μ-loop3 Inv-loop μ-loop
+returns c =
+    let places-of = c .places-of in
+    let test1 = c .before .loop-test in
+    let loop = c .before .before .loop in
+    let array-of = c .before .before .before .before .array-of in
+    let args = c .before .before .before .before .before .before .before .before .before .before .args in
+    let e : array-of .result ≡ args .o .machine .places .p0 ∷ (args .o .machine .places .p1 ∷ (args .o .machine .places .p2 ∷ (args .o .machine .places .p3 ∷ []))) = array-of .ensures in
+    let k = feed-end (record { front = args .o .front; machine = machineIn (array-of .result) (args .o .machine .counts); at = args .o .at }) (args .recent .now) (args .base) (args .flags .now) (args .values .now) (args .out .now)
+    (loop .out) (record { front = loop .front; machine = machineIn (loop .places) (loop .counts); at = loop .at }) (loop .done) (test1 .left) (loop .inv .1) in
+    subst (λ (l : List Place). BlocksPost (record { front = args .o .front; machine = machineIn l (args .o .machine .counts); at = args .o .at }) (args .recent .now) (args .base) (args .flags .now) (args .values .now) (args .out .now) (record { front = loop .front; machine = record { places = places-of .result; counts = loop .counts }; at = loop .at }) (loop .out)) e
+    (subst (λ (f : Places). BlocksPost (record { front = args .o .front; machine = machineIn (array-of .result) (args .o .machine .counts); at = args .o .at }) (args .recent .now) (args .base) (args .flags .now) (args .values .now) (args .out .now) (record { front = loop .front; machine = record { places = f; counts = loop .counts }; at = loop .at }) (loop .out)) (sym (places-of .ensures)) k)
 
 pub feed-blocks-spec : {M : Type 1} → statement M
 feed-blocks-spec =
     tie.close
     (tie.spec
+    Inv-loop2
+    μ-loop2
+    Inv-loop3
+    μ-loop3
     Inv-loop
     μ-loop
+    array-of-requires
     loop-holds
     sub-block-length
     block-length-requires
     packed-requires
-    add-next
+    add-done
     cast-t
     add-t
+    array-copy-out-stays
     stays-requires
     loop-less
     loop-again
-    cast-block
-    block-requires
+    cast-advance
+    advance-requires
+    span-of-requires
+    cast-top
+    top-requires
+    array-copy-out-none-due
+    none-due-requires
     loop-less-2
     loop-again-2
+    covers-of-requires
+    risks-of-requires
+    wanted-requires
+    cast-from
+    sub-from
+    loop2-holds
+    lowest-requires
+    tick-of-requires
+    array-copy-out-is-over
+    is-over-requires
+    array-copy-out-hand-one
+    hand-one-requires
+    array-copy-out-kept
+    kept-requires
+    array-copy-out-kept-2
+    kept-requires-2
+    array-copy-out-kept-3
+    kept-requires-3
+    idle-place-requires
+    without-word-requires
+    without-word-requires-2
+    loop2-less
+    loop2-again
+    marked-requires
+    pulse-at-requires
+    framed-requires
+    apart-requires
+    add-t78
+    second-main-requires
+    pulse-at-requires-2
+    firsts-of-requires
+    is-busy-requires
+    outcome-of-requires
+    counted-requires
+    removed-by-requires
+    behind-requires
+    mul-kept
+    array-copy-out-kept-4
+    kept-requires-4
+    behind-requires-2
+    mul-kept-2
+    array-copy-out-kept-5
+    kept-requires-5
+    behind-requires-3
+    mul-kept-3
+    array-copy-out-kept-6
+    kept-requires-6
+    idle-place-requires-2
+    without-word-requires-3
+    without-word-requires-4
+    loop2-less-2
+    loop2-again-2
+    opens-requires
+    opened-requires
+    free-requires
+    mul-places
+    array-set-from-places
+    open-cover-requires
+    with-word-requires
+    open-phantom-requires
+    with-word-requires-2
+    above-requires
+    wanted-requires-2
+    without-lowest-requires
+    add-from
+    twice-requires
+    marked-requires-2
+    voices-of-requires
+    marked-requires-3
+    array-copy-out-q
+    any3-requires
+    heard-requires
+    array-set-from-places-2
+    marked-requires-4
+    array-copy-out-q-2
+    any3-requires-2
+    heard-requires-2
+    array-set-from-places-3
+    marked-requires-5
+    array-copy-out-q-3
+    any3-requires-3
+    heard-requires-3
+    array-set-from-places-4
+    marked-requires-6
+    array-copy-out-q-4
+    any3-requires-4
+    heard-requires-4
+    array-set-from-places-5
+    loop2-less-3
+    loop2-again-3
+    loop2-less-4
+    loop2-again-4
+    any-word-requires
+    marked-requires-7
+    which-requires
+    mul-q
+    array-copy-out-q-5
+    speaks-requires
+    heard-requires-5
+    mul-places-2
+    array-set-from-places-6
+    loop2-less-5
+    loop2-again-5
+    loop2-less-6
+    loop2-again-6
+    loop3-holds
+    array-copy-out-none-due-2
+    none-due-requires-2
+    loop-less-3
+    loop-again-3
+    array-copy-out-hand-one-2
+    sub-t155
+    hand-one-requires-2
+    array-copy-out-kept-7
+    kept-requires-7
+    array-copy-out-kept-8
+    kept-requires-8
+    array-copy-out-kept-9
+    kept-requires-9
+    idle-place-requires-3
+    loop3-less
+    loop3-again
+    places-of-requires
     same-length
     returns)
