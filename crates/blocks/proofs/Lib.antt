@@ -2,8 +2,8 @@ pub mod Leaving
 pub mod Stages
 pub mod Visiting
 pub mod Taking
+pub mod Standing
 pub mod Working
 pub mod BlockLaws
-pub mod Waiting
-pub mod Staying
-pub mod Standing
+pub mod ZeroWords
+pub mod Blank

@@ -2,8 +2,9 @@
 use Prim.Native.Nat.{ℕ, zero, suc, _+_, _*_, _^_, _<_}
 use mathlib.Core.Path.{_≡_}
 use mathlib.Core.Bool.{Bool, true, false, _&&_, _||_}
-use mathlib.Core.List.{List}
-use lib.ListN.{length, getD, drop}
+use mathlib.Core.List.{List, [], _∷_}
+use lib.Dec.{eqb}
+use lib.ListN.{getD, drop}
 use Rattle.rules.specs.Lists.{any}
 use Rattle.rules.specs.Samples.{bad}
 use Rattle.plane.specs.Words.{bit}
@@ -36,6 +37,7 @@ pub record BareBlock (f : List ℕ) (o : ℕ) (r : Bool) : Type 0 where
   pub yes : r ≡ true → (m k : ℕ) → m < 64 → k < 8 → bit (getD f (o + m) 0) k ≡ false
   pub no : ((m k : ℕ) → m < 64 → k < 8 → bit (getD f (o + m) 0) k ≡ false) → r ≡ true
 
--- if r is true, all flag bytes are 0
-pub record Bare (f : List ℕ) (r : Bool) : Type 0 where
-  pub yes : r ≡ true → (m : ℕ) → m < length f → getD f m 0 ≡ 0
+-- every flag byte is 0
+abbrev pub noFlags : List ℕ → Bool
+noFlags [] = true
+noFlags (x ∷ f) = eqb x 0 && noFlags f

@@ -5,7 +5,7 @@ ghost use lib.ListN.{length};
 ghost use lib.Bits.{bitAnd};
 ghost use Rattle.rules.specs.Lists.{any};
 ghost use Rattle.rules.specs.Samples.{bad};
-ghost use Rattle.packing.specs.Flags.{BadFrom, Gathered, Paired, BadBlock, BareBlock, Bare};
+ghost use Rattle.packing.specs.Flags.{BadFrom, Gathered, Paired, BadBlock, BareBlock, noFlags};
 use super::eight;
 
 // Whether a flag byte is bad.
@@ -81,8 +81,8 @@ fn bad_from(flags: &[u8], o: usize) -> bool
 }
 
 // Whether no flag byte has a bit.
-pub fn is_bare(flags: &[u8]) -> bool
-    ensures { λ r. ⌜ Bare (now (flags .entry)) r ⌝ }
+pub fn has_no_flag(flags: &[u8]) -> bool
+    ensures { λ r. ⌜ r ≡ noFlags (now (flags .entry)) ⌝ }
 {
     let n = flags.len();
     let mut i = 0usize;

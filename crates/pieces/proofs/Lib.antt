@@ -1,3 +1,3 @@
-pub mod Streaming
+pub mod Pieces
 pub mod Turns
 pub mod Handing

@@ -1,7 +1,7 @@
 -- Truth values: what a test that passed, or failed, says of its parts.
 use Prim.Native.Nat.{ℕ}
 use native.Mathlib.Omega.{arith}
-use mathlib.Core.Path.{_≡_, refl, sym}
+use mathlib.Core.Path.{_≡_, refl, sym, ap, _∙_}
 use mathlib.Core.Logic.{_⊎_, inl, inr}
 use mathlib.Core.Bool.{Bool, true, false, _&&_, _||_}
 use lib.Dec.{eqb}
@@ -17,6 +17,13 @@ and-left false y h = h
 pub and-right : (x y : Bool) → (x && y) ≡ true → y ≡ true
 and-right true y h = h
 and-right false y h = absurd (impossible (sym h))
+
+-- the answer of two tests in a row: no after the first, or that of the second
+pub and-no : (x y : Bool) → x ≡ false → false ≡ (x && y)
+and-no x y e = sym (ap (λ (z : Bool). z && y) e)
+
+pub and-then : (x y r : Bool) → x ≡ true → r ≡ y → r ≡ (x && y)
+and-then x y r e f = f ∙ sym (ap (λ (z : Bool). z && y) e)
 
 pub or-left : (x y : Bool) → (x || y) ≡ false → x ≡ false
 or-left true y h = h

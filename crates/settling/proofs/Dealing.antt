@@ -266,17 +266,17 @@ deals-four l m₁ m₂ m₃ m₄ w i e s a b c d ea eb ec ed v ev ta tb tc td =
     record {
       size = size;
       deal = deal-all-law l w i e s m₄
-    (record {
-      at = λ k.
-          let fa : Place → Place = hearing e (v .a) (any3 (v .b) (v .c) (v .d)) in
-          let fb : Place → Place = hearing e (v .b) (any3 (v .a) (v .c) (v .d)) in
-          let fc : Place → Place = hearing e (v .c) (any3 (v .a) (v .b) (v .d)) in
-          let e0 = turned-by a 0 e (v .a) (any3 (v .b) (v .c) (v .d)) l l m₁ (ea ∙ k .a) refl ta in
-          let e1 = turned-by b 1 e (v .b) (any3 (v .a) (v .c) (v .d)) l m₁ m₂ (eb ∙ k .b) (second-stays a b c fa fb fc l m₁ l l e0) tb in
-          let e2 = turned-by c 2 e (v .c) (any3 (v .a) (v .b) (v .d)) l m₂ m₃ (ec ∙ k .c) (third-stays a b c fa fb fc l m₁ m₂ l e0 e1) tc in
-          let e3 = turned-by d 3 e (v .d) (any3 (v .a) (v .b) (v .c)) l m₃ m₄ (ed ∙ k .d) (fourth-stays a b c fa fb fc l m₁ m₂ m₃ e0 e1 e2) td in
-          chain e a b c d v l m₁ m₂ m₃ m₄ e0 e1 e2 e3 ∙ (λ j. allTurned e (ea j) (eb j) (ec j) (ed j) (ev j) l);
-    });
+          (record {
+            at = λ k.
+                let fa : Place → Place = hearing e (v .a) (any3 (v .b) (v .c) (v .d)) in
+                let fb : Place → Place = hearing e (v .b) (any3 (v .a) (v .c) (v .d)) in
+                let fc : Place → Place = hearing e (v .c) (any3 (v .a) (v .b) (v .d)) in
+                let e0 = turned-by a 0 e (v .a) (any3 (v .b) (v .c) (v .d)) l l m₁ (ea ∙ k .a) refl ta in
+                let e1 = turned-by b 1 e (v .b) (any3 (v .a) (v .c) (v .d)) l m₁ m₂ (eb ∙ k .b) (second-stays a b c fa fb fc l m₁ l l e0) tb in
+                let e2 = turned-by c 2 e (v .c) (any3 (v .a) (v .b) (v .d)) l m₂ m₃ (ec ∙ k .c) (third-stays a b c fa fb fc l m₁ m₂ l e0 e1) tc in
+                let e3 = turned-by d 3 e (v .d) (any3 (v .a) (v .b) (v .c)) l m₃ m₄ (ed ∙ k .d) (fourth-stays a b c fa fb fc l m₁ m₂ m₃ e0 e1 e2) td in
+                chain e a b c d v l m₁ m₂ m₃ m₄ e0 e1 e2 e3 ∙ (λ j. allTurned e (ea j) (eb j) (ec j) (ed j) (ev j) l);
+          });
     }
 
 -- it goes to one place

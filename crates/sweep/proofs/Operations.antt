@@ -26,7 +26,7 @@ use Rattle.sweep.specs.declared.Answer.the-variants.{Accepted, Refused}
 use Rattle.sweep.specs.declared.Processor.{Processor}
 use Rattle.sweep.specs.declared.Taken.{Taken}
 use Rattle.sweep.specs.declared.Closed.{Closed}
-use Rattle.blocks.specs.declared.Run.{Run}
+use Rattle.blocks.specs.declared.Progress.{Progress}
 use Rattle.front.specs.Words.{frontOf, recentOf}
 use Rattle.sweep.specs.State.{Sweep, none, running, idleProcessor, runningProcessor, processorOf, Within, Made}
 use Rattle.sweep.specs.Post.{takeVerdict, takeAs, takeBufferAs, TakePost, closeVerdict, closeAs, closeBufferAs, noTotals, ClosePost, totalsFrom}
@@ -139,7 +139,7 @@ bytes-all [] h = tt
 bytes-all (v ∷ l) h = (omega (arith, h 0), bytes-all l (λ i. h (suc i)))
 
 module _ (p : Processor) (flags values b : List ℕ) (verdict : takeAnswer (ltb 0 (p .mode)) (p .taken) flags values (length b) ≡ accepted) (bytes : (i : ℕ) → getD values i 0 < 256)
-    (o y : Run) (b′ recent′ : List ℕ) (oe : o ≡ record { front = p .front; machine = p .machine; at = 0 })
+    (o y : Progress) (b′ recent′ : List ℕ) (oe : o ≡ record { front = p .front; machine = p .machine; at = 0 })
     (fd : FeedPost o (p .recent) (p .taken) flags values b y b′) (kp : KeepPost (p .recent) values recent′) where
   abbrev result : Taken
   result =
@@ -154,9 +154,9 @@ module _ (p : Processor) (flags values b : List ℕ) (verdict : takeAnswer (ltb 
         let h = took (ltb 0 (p .mode)) (p .taken) flags values (length b) verdict in
         fd .result T
         (record {
-          front = ap (λ (x : Run). x .front) oe ∙ front-of m azimuth T p is;
-          machine = ap (λ (x : Run). x .machine) oe ∙ machine-of m azimuth T p is;
-          place = ap (λ (x : Run). x .at) oe;
+          front = ap (λ (x : Progress). x .front) oe ∙ front-of m azimuth T p is;
+          machine = ap (λ (x : Progress). x .machine) oe ∙ machine-of m azimuth T p is;
+          place = ap (λ (x : Progress). x .at) oe;
           kept = recent-of m azimuth T p is;
           ticks = sym (taken-of m azimuth T p is);
           alike = w .alike;
@@ -234,7 +234,7 @@ close-fits true room e = ltb-false room 144 (go (ltb room 144) e)
     go true q = absurd (no-verdict 7 q)
     go false q = refl
 
-module _ (p : Processor) (b : List ℕ) (verdict : closeAnswer (ltb 0 (p .mode)) (length b) ≡ accepted) (base : ℕ) (eb : p .taken ≤ 32768 → base ≡ p .taken) (o y : Run) (b′ : List ℕ)
+module _ (p : Processor) (b : List ℕ) (verdict : closeAnswer (ltb 0 (p .mode)) (length b) ≡ accepted) (base : ℕ) (eb : p .taken ≤ 32768 → base ≡ p .taken) (o y : Progress) (b′ : List ℕ)
     (oe : o ≡ record { front = p .front; machine = p .machine; at = 0 }) (dr : DrainPost o (p .recent) base b y b′) where
   abbrev closedResult : Closed
   closedResult = record { answer = Accepted (y .at / 18); totals = totalsFrom (y .machine .counts); processor = idleProcessor }
@@ -246,9 +246,9 @@ module _ (p : Processor) (b : List ℕ) (verdict : closeAnswer (ltb 0 (p .mode))
         let c = eb (omega (arith, t, w .short)) in
         dr .result T
         (record {
-          front = ap (λ (x : Run). x .front) oe ∙ front-of m azimuth T p is;
-          machine = ap (λ (x : Run). x .machine) oe ∙ machine-of m azimuth T p is;
-          place = ap (λ (x : Run). x .at) oe;
+          front = ap (λ (x : Progress). x .front) oe ∙ front-of m azimuth T p is;
+          machine = ap (λ (x : Progress). x .machine) oe ∙ machine-of m azimuth T p is;
+          place = ap (λ (x : Progress). x .at) oe;
           kept = recent-of m azimuth T p is;
           ticks = omega (arith, t, c);
           alike = w .alike;

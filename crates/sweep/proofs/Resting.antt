@@ -1,37 +1,38 @@
 -- A piece without flags, behind ticks without flags, edges and M, hands out nothing while no reply is due, and leaves words and machine as they are:
 -- each of its ticks is a block that stays.
-use Prim.Native.Nat.{ℕ, zero, suc, _+_, _-_, _*_, _/_, _≤_, _<_}
+use Prim.Native.Nat.{ℕ, zero, suc, _+_, _*_, _/_, _≤_, _<_}
 use native.Mathlib.Omega.{arith}
 use native.Mathlib.Numerals.{add-one}
 use mathlib.Core.Path.{_≡_, refl, sym, ap, _∙_, subst}
-use mathlib.Core.Bool.{Bool, true, false}
+use mathlib.Core.Bool.{Bool, true, false, _&&_}
 use mathlib.Core.List.{List, [], _∷_, _++_}
+use lib.Dec.{leb}
 use lib.ListN.{length, getD, replicate, length-append, length-replicate}
-use borrow.Author.Tests.{ltb-false, le-ltb}
+use borrow.Author.Tests.{leb-true, le-leb, lt-leb}
+use Rattle.rules.specs.declared.Place.{Place}
 use Rattle.rules.specs.declared.Reply.{Reply}
 use Rattle.rules.specs.Settings.{standard}
 use Rattle.rules.specs.Lists.{All}
-use Rattle.rules.specs.Samples.{Trace, A, P, N, M, odd, sweepLimit}
-use Rattle.rules.specs.Replies.{f1, ended}
+use Rattle.rules.specs.Samples.{Trace, A, P, N, M, odd, pieceLimit, sweepLimit}
 use Rattle.rules.specs.Calls.{takeRoom, fresh}
-use Rattle.rules.proofs.Truth.{impossible}
-use Rattle.columns.specs.Columns.{Rows}
+use Rattle.rules.proofs.Truth.{and-left, and-right, and-no, and-then}
 use Rattle.packing.specs.declared.Planes.{Planes}
 use Rattle.plane.specs.Words.{HoldsPart}
 use Rattle.packing.specs.Packing.{PackedPart}
-use Rattle.packing.specs.Flags.{Bare}
+use Rattle.packing.specs.Flags.{noFlags}
+use Rattle.packing.proofs.flags.Bareness.{no-flag-at}
 use Rattle.plane.proofs.BitLaws.{zero-bit}
 use Rattle.sweep.specs.declared.Processor.{Processor}
 use Rattle.front.specs.declared.words.Front.{Front}
-use Rattle.blocks.specs.declared.Stand.{Stand}
+use Rattle.blocks.specs.declared.Progress.{Progress}
 use Rattle.sweep.specs.State.{running, runningProcessor, processorOf, Made}
 use Rattle.front.specs.Words.{recentOf}
-use Rattle.front.specs.Post.{still}
-use Rattle.blocks.specs.Steps.{Waits, Stays, runOf, FedColumns}
+use Rattle.front.specs.Post.{blank}
+use Rattle.blocks.specs.Steps.{noneDue, Fed}
 use Rattle.pieces.specs.Feeding.{BlocksPost}
-use Rattle.sweep.specs.Post.{Rests, Standing, QuietPost}
-use Rattle.blocks.proofs.Staying.{stays-law}
-use Rattle.pieces.proofs.Streaming.{Feeding, feed-start, feed-next, feed-end, enters-piece}
+use Rattle.sweep.specs.Post.{Rests, quiet}
+use Rattle.blocks.proofs.Blank.{none-due-before, stays-law}
+use Rattle.pieces.proofs.Pieces.{Feeding, feed-start, feed-next, feed-end, enters-piece}
 use Rattle.sweep.proofs.Operations.{mode-of, azimuth-of, taken-of, front-of, recent-of, machine-of}
 
 -- ---- one tick
@@ -58,31 +59,64 @@ tick-none flags i e =
 
 -- ---- a piece
 
-module _ (x : Rows) (o : Stand) (recent : List ℕ) (base : ℕ) (flags values b : List ℕ) (bare : (m : ℕ) → m < length flags → getD flags m 0 ≡ 0) (words : still (o .front) ≡ true)
-    (waits : Waits (x .f1) (base + length flags)) where
-  -- a reply that is not due at the end was not due before
-  stays : (t : ℕ) → t ≤ base + length flags → Stays (o .front) (x .f1) none t
-  unfolding ended
-  stays t h =
-      record {
-        planes = refl;
-        words = words;
-        waits =
-            record {
-              open-still = λ l r e.
-                  le-ltb (f1 r + 205) (t - 179) (omega (arith, ltb-false (f1 r + 205) (base + length flags - 179) (waits .open-still (omega arith) r e)));
-            };
-      }
-
-  resting : (i : ℕ) → i ≤ length flags → Feeding x o recent base flags values b b x o i
-  resting zero h = feed-start x o recent base flags values b
+module _ (o : Progress) (recent : List ℕ) (base : ℕ) (flags values b : List ℕ) (bare : noFlags flags ≡ true) (words : blank (o .front) ≡ true)
+    (waits : noneDue (o .machine .places .p0) (base + length flags) ≡ true) where
+  resting : (i : ℕ) → i ≤ length flags → Feeding o recent base flags values b b o i
+  resting zero h = feed-start o recent base flags values b
   resting (suc i) h =
-      subst (λ (k : ℕ). Feeding x o recent base flags values b b x o k) (add-one i)
-      (feed-next x o recent base flags values b b x o i 1 (base + (i + 1)) none x o b (omega arith) refl (tick-none flags i (bare i (omega arith)))
-      (stays-law x o none 1 (base + (i + 1)) recent base values b (omega arith) (stays (base + (i + 1)) (omega arith))) (resting i (omega arith)))
+      let t = base + (i + 1) in
+      subst (λ (k : ℕ). Feeding o recent base flags values b b o k) (add-one i)
+      (feed-next o recent base flags values b b o i 1 t none o b (omega arith) refl (tick-none flags i (no-flag-at flags bare i))
+      (stays-law o none 1 t recent base values b (omega arith) refl words (none-due-before (o .machine .places .p0) t (base + length flags) (omega arith) waits))
+      (resting i (omega arith)))
 
-  pub rests-law : BlocksPost x o recent base flags values b x o b
-  rests-law = feed-end x o recent base flags values b b x o (length flags) (omega arith) (resting (length flags) (omega arith))
+  pub rests-law : BlocksPost o recent base flags values b o b
+  rests-law = feed-end o recent base flags values b b o (length flags) (omega arith) (resting (length flags) (omega arith))
+
+-- ---- a quiet piece
+
+module _ (f : Front) (first : Place) (base : ℕ) (flags : List ℕ) where
+  abbrev n : ℕ
+  n = length flags
+
+  -- the tests behind those of the lengths
+  abbrev finds-none : Bool
+  finds-none = noFlags flags && (blank f && noneDue first (base + n))
+
+  -- what the code finds, test by test
+  pub quiet-too-long : 4096 < n → false ≡ quiet f first base flags
+  quiet-too-long h = and-no (leb n pieceLimit) (leb (base + n) sweepLimit && finds-none) (lt-leb n 4096 h)
+
+  pub quiet-too-far : n ≤ 4096 → 32768 < base + n → false ≡ quiet f first base flags
+  quiet-too-far h l = and-then (leb n pieceLimit) (leb (base + n) sweepLimit && finds-none) false (le-leb n 4096 h) (and-no (leb (base + n) sweepLimit) finds-none (lt-leb (base + n) 32768 l))
+
+  pub quiet-within : (r : Bool) → n ≤ 4096 → base + n ≤ 32768 → r ≡ finds-none → r ≡ quiet f first base flags
+  quiet-within r h l e =
+      and-then (leb n pieceLimit) (leb (base + n) sweepLimit && finds-none) r (le-leb n 4096 h) (and-then (leb (base + n) sweepLimit) finds-none r (le-leb (base + n) 32768 l) e)
+
+-- what a quiet piece is
+pub record Quiet (f : Front) (first : Place) (base : ℕ) (flags : List ℕ) : Type 0 where
+  pub limit : base + length flags ≤ sweepLimit
+  pub flagless : noFlags flags ≡ true
+  pub words : blank f ≡ true
+  pub waits : noneDue first (base + length flags) ≡ true
+
+pub quiet-is : (f : Front) (first : Place) (base : ℕ) (flags : List ℕ) → quiet f first base flags ≡ true → Quiet f first base flags
+quiet-is f first base flags e =
+    let n = length flags in
+    let w = noneDue first (base + n) in
+    let z = blank f && w in
+    let y = noFlags flags && z in
+    let x = leb (base + n) sweepLimit && y in
+    let e₁ = and-right (leb n pieceLimit) x e in
+    let e₂ = and-right (leb (base + n) sweepLimit) y e₁ in
+    let e₃ = and-right (noFlags flags) z e₂ in
+    record {
+      limit = leb-true (base + n) sweepLimit (and-left (leb (base + n) sweepLimit) y e₁);
+      flagless = and-left (noFlags flags) z e₂;
+      words = and-left (blank f) w e₃;
+      waits = and-right (blank f) w e₃;
+    }
 
 -- ---- the take of such a piece
 
@@ -90,57 +124,56 @@ no-replies : (l : List Reply) → 0 ≡ 18 * length l → l ≡ []
 no-replies [] e = refl
 no-replies (r ∷ l) e = absurd (omega arith)
 
-module _ (f : Front) (f1s : List ℕ) (base : ℕ) (flags : List ℕ) (limit : base + length flags ≤ sweepLimit) (r : Bool) (bare : Bare flags r) (is : r ≡ true) (words : still f ≡ true)
-    (waits : Waits f1s (base + length flags)) where
-  module _ (p : Processor) (st : Standing p f f1s base) (mode azimuth : ℕ) (T : Trace) (values : List ℕ) (made : Made (running mode azimuth T) p) (alike : length flags ≡ length values)
-      (bytes : All (λ v. v ≤ 255) values) where
-    made-as : p ≡ runningProcessor mode azimuth T
-    unfolding processorOf
-    made-as = made .is
+module _ (p : Processor) (flags : List ℕ) (q : Quiet (p .front) (p .machine .places .p0) (p .taken) flags) (mode azimuth : ℕ) (T : Trace) (values : List ℕ)
+    (made : Made (running mode azimuth T) p) (alike : length flags ≡ length values) (bytes : All (λ v. v ≤ 255) values) where
+  made-as : p ≡ runningProcessor mode azimuth T
+  unfolding processorOf
+  made-as = made .is
 
-    o : Stand
-    o = record { front = p .front; counts = st .counts; at = 0 }
+  o : Progress
+  o = record { front = p .front; machine = p .machine; at = 0 }
 
-    room : List ℕ
-    room = replicate (takeRoom (length flags)) 0
+  room : List ℕ
+  room = replicate (takeRoom (length flags)) 0
 
-    fed : FedColumns T (record { flags = flags; values = values }) room (st .rows) o room
-    unfolding o room
-    fed =
-        rests-law (st .rows) o (p .recent) (p .taken) flags values room (bare .yes is) (subst (λ (g : Front). still g ≡ true) (sym (st .words)) words)
-        (subst (λ (n : ℕ). Waits (st .rows .f1) (n + length flags)) (sym (st .ticks)) (subst (λ (l : List ℕ). Waits l (base + length flags)) (sym (st .first)) waits))
-        .result (st .sized) T
-        (enters-piece T (runOf (st .rows) o) (p .recent) (p .taken) flags values room
-        (record {
-          front = front-of mode azimuth T p made-as;
-          machine = sym (st .machine) ∙ machine-of mode azimuth T p made-as;
-          place = refl;
-          kept = recent-of mode azimuth T p made-as;
-          ticks = sym (taken-of mode azimuth T p made-as);
-          alike = made .sound .alike;
-          alike-piece = alike;
-          bytes = made .sound .bytes;
-          bytes-piece = bytes;
-          limit = omega (arith, limit, st .ticks);
-          room = omega (arith, length-replicate {A = ℕ} (takeRoom (length flags)) 0);
-        }))
+  fed : Fed T (record { flags = flags; values = values }) room o room
+  unfolding o room
+  fed =
+      rests-law o (p .recent) (p .taken) flags values room (q .flagless) (q .words) (q .waits) .result T
+      (enters-piece T o (p .recent) (p .taken) flags values room
+      (record {
+        front = front-of mode azimuth T p made-as;
+        machine = machine-of mode azimuth T p made-as;
+        place = refl;
+        kept = recent-of mode azimuth T p made-as;
+        ticks = sym (taken-of mode azimuth T p made-as);
+        alike = made .sound .alike;
+        alike-piece = alike;
+        bytes = made .sound .bytes;
+        bytes-piece = bytes;
+        limit = q .limit;
+        room = omega (arith, length-replicate {A = ℕ} (takeRoom (length flags)) 0);
+      }))
 
-    rests : Rests p mode azimuth T (record { flags = flags; values = values })
-    unfolding o runningProcessor
-    rests =
-        let e1 = mode-of mode azimuth T p made-as in
-        let e2 = azimuth-of mode azimuth T p made-as in
-        let e3 : p .taken + length flags ≡ length (T .flags ++ flags) = omega (arith, taken-of mode azimuth T p made-as, length-append (T .flags) flags) in
-        let e4 = fed .fed .front in
-        let e6 = st .machine ∙ fed .fed .machine in
-        record {
-          none-due = no-replies (fresh standard T (record { flags = flags; values = values })) (fed .fed .place);
-          processor = λ i. record { mode = e1 i; azimuth = e2 i; taken = e3 i; front = e4 i; recent = recentOf (T .values ++ values); machine = e6 i };
-        }
+  rests : Rests p mode azimuth T (record { flags = flags; values = values })
+  unfolding o runningProcessor
+  rests =
+      let e1 = mode-of mode azimuth T p made-as in
+      let e2 = azimuth-of mode azimuth T p made-as in
+      let e3 : p .taken + length flags ≡ length (T .flags ++ flags) = omega (arith, taken-of mode azimuth T p made-as, length-append (T .flags) flags) in
+      let e4 = fed .front in
+      let e6 = fed .machine in
+      record {
+        none-due = no-replies (fresh standard T (record { flags = flags; values = values })) (fed .place);
+        processor = λ i. record { mode = e1 i; azimuth = e2 i; taken = e3 i; front = e4 i; recent = recentOf (T .values ++ values); machine = e6 i };
+      }
 
-pub quiet-no : (f : Front) (f1s : List ℕ) (base : ℕ) (flags : List ℕ) → QuietPost f f1s base flags false
-quiet-no f f1s base flags = record { limit = λ e. absurd (impossible (sym e)); result = λ e. absurd (impossible (sym e)) }
-
-pub quiet-if : (f : Front) (f1s : List ℕ) (base : ℕ) (flags : List ℕ) (r x : Bool) → base + length flags ≤ sweepLimit → Bare flags r → r ≡ true → still f ≡ true
-    → (x ≡ true → Waits f1s (base + length flags)) → QuietPost f f1s base flags x
-quiet-if f f1s base flags r x limit bare is words waits = record { limit = λ e. limit; result = λ e. rests f f1s base flags limit r bare is words (waits e) }
+-- every piece of quiet flags is such a piece for a processor with these words, this first place, and so many ticks taken
+pub quiet-rests : (f : Front) (first : Place) (base : ℕ) (flags : List ℕ) → quiet f first base flags ≡ true
+    → (p : Processor) → p .front ≡ f → p .machine .places .p0 ≡ first → p .taken ≡ base
+    → (mode azimuth : ℕ) (T : Trace) (values : List ℕ) → Made (running mode azimuth T) p → length flags ≡ length values → All (λ v. v ≤ 255) values
+    → Rests p mode azimuth T (record { flags = flags; values = values })
+quiet-rests f first base flags is p words place ticks =
+    rests p flags
+    (subst (λ (g : Front). Quiet g (p .machine .places .p0) (p .taken) flags) (sym words)
+    (subst (λ (x : Place). Quiet f x (p .taken) flags) (sym place) (subst (λ (t : ℕ). Quiet f first t flags) (sym ticks) (quiet-is f first base flags is))))

@@ -1,13 +1,13 @@
 -- What each operation returns and leaves in its buffer. The equations hold for every processor that belongs to a sweep (`Made`);
 -- for a processor value that no calls make, an operation is safe and ends.
-use Prim.Native.Nat.{ℕ, _+_, _-_, _≤_}
-use mathlib.Core.Bool.{Bool, true}
+use Prim.Native.Nat.{ℕ, _+_, _-_}
+use mathlib.Core.Bool.{Bool, _&&_}
 use mathlib.Core.List.{List, [], _++_}
 use mathlib.Core.Path.{_≡_}
+use lib.Dec.{leb}
 use lib.ListN.{length}
 use Rattle.rules.specs.Settings.{standard}
-use Rattle.rules.specs.Lists.{All}
-use Rattle.rules.specs.Samples.{Trace, _⧺_, sweepLimit}
+use Rattle.rules.specs.Samples.{Trace, _⧺_, pieceLimit, sweepLimit}
 use Rattle.rules.specs.Buffers.{over}
 use Rattle.rules.specs.Machine.{final}
 use Rattle.rules.specs.Records.{records, totals}
@@ -15,7 +15,8 @@ use Rattle.rules.specs.Calls.{Answer as Verdict, accepted, refused, openAnswer,
 use Rattle.rules.specs.declared.Totals.{Totals}
 use Rattle.sweep.specs.declared.Answer.the-variants.{Accepted, Refused}
 use Rattle.rules.specs.declared.Counts.{Counts}
-use Rattle.columns.specs.Columns.{Rows, Sized, machineAt}
+use Rattle.rules.specs.declared.Place.{Place}
+use Rattle.packing.specs.Flags.{noFlags}
 use Rattle.front.specs.declared.words.Front.{Front}
 use Rattle.sweep.specs.declared.Processor.{Processor}
 use Rattle.sweep.specs.declared.Opened.{Opened}
@@ -23,6 +24,8 @@ use Rattle.sweep.specs.declared.Taken.{Taken}
 use Rattle.sweep.specs.declared.Closed.{Closed}
 use Rattle.sweep.specs.State.{Sweep, none, running, processorOf, idleProcessor, runningProcessor, isOpen, takenBy, Made}
 use Rattle.front.specs.Words.{recentOf}
+use Rattle.front.specs.Post.{blank}
+use Rattle.blocks.specs.Steps.{noneDue}
 
 -- ---- open. "No processor comes back": a refused opening's is the idle one.
 
@@ -73,21 +76,11 @@ pub record Rests (p : Processor) (mode azimuth : ℕ) (T P : Trace) : Type 0 whe
   pub processor : record { mode = p .mode; azimuth = p .azimuth; taken = p .taken + length (P .flags); front = p .front; recent = recentOf (T .values ++ P .values); machine = p .machine }
       ≡ runningProcessor mode azimuth (T ⧺ P)
 
--- a processor with these words, columns with these F1, and so many ticks taken
-pub record Standing (p : Processor) (f : Front) (f1s : List ℕ) (base : ℕ) : Type 0 where
-  pub ticks : p .taken ≡ base
-  pub words : p .front ≡ f
-  pub rows : Rows
-  pub counts : Counts
-  pub first : rows .f1 ≡ f1s
-  pub sized : Sized rows
-  pub machine : p .machine ≡ machineAt rows counts
-
--- if r is true, every piece of these flags is such a piece for such a processor
-pub record QuietPost (f : Front) (f1s : List ℕ) (base : ℕ) (flags : List ℕ) (r : Bool) : Type 0 where
-  pub limit : r ≡ true → base + length flags ≤ sweepLimit
-  pub result : r ≡ true → (p : Processor) → Standing p f f1s base → (mode azimuth : ℕ) (T : Trace) (values : List ℕ) → Made (running mode azimuth T) p → length flags ≡ length values
-      → All (λ v. v ≤ 255) values → Rests p mode azimuth T (record { flags = flags; values = values })
+-- a piece of these flags, behind `base` ticks, that finds nothing: it is no longer than a piece and within the sweep, no flag is set, no word has a bit, and the
+-- reply of the first place does not become due
+abbrev pub quiet : Front → Place → ℕ → List ℕ → Bool
+quiet f first base flags =
+    leb (length flags) pieceLimit && (leb (base + length flags) sweepLimit && (noFlags flags && (blank f && noneDue first (base + length flags))))
 
 -- ---- close
 

@@ -17,7 +17,7 @@ use front::words::Front;
 use front::words::is_blank;
 use front::words::no_front;
 use machine::empty_machine;
-use packing::flags::is_bare;
+use packing::flags::has_no_flag;
 use pieces::drain;
 use pieces::feed;
 use rules::Counts;
@@ -180,7 +180,7 @@ pub fn is_quiet(f: Front, first: Place, base: u32, flags: &[u8]) -> bool
     if 32768 < t {
         return false;
     }
-    if !is_bare(flags) {
+    if !has_no_flag(flags) {
         return false;
     }
     if !is_blank(f) {

@@ -15,18 +15,18 @@ use Rattle.rules.specs.Buffers.{over, over-at}
 use Rattle.rules.specs.Records.{records}
 use Rattle.rules.specs.Calls.{accepted, fresh}
 use Rattle.rules.proofs.HandingOut.{fresh-most}
-use Rattle.columns.specs.Columns.{Rows, Sized, machineAt}
 use Rattle.sweep.specs.declared.Answer.{Answer}
 use Rattle.sweep.specs.declared.Answer.the-variants.{Accepted, Refused}
 use Rattle.sweep.specs.declared.Processor.{Processor}
-use Rattle.blocks.specs.declared.Stand.{Stand}
+use Rattle.blocks.specs.declared.Progress.{Progress}
 use Rattle.sweep.specs.State.{running, runningProcessor, processorOf, Made}
-use Rattle.sweep.specs.Post.{takeVerdict, QuietPost}
-use Rattle.blocks.specs.Steps.{runOf, FedColumns}
-use Rattle.pieces.specs.Feeding.{Begins, ColumnsPost}
+use Rattle.sweep.specs.Post.{takeVerdict, quiet}
+use Rattle.blocks.specs.Steps.{Fed}
+use Rattle.pieces.specs.Feeding.{Begins, FeedPost}
 use Rattle.front.specs.Post.{KeepPost}
 use Rattle.rules.proofs.Answers.{took}
 use Rattle.sweep.proofs.Operations.{mode-of, azimuth-of, taken-of, front-of, recent-of, machine-of}
+use Rattle.sweep.proofs.Resting.{quiet-rests}
 use Rattle.blocks.proofs.Working.{over-nil}
 use Rattle.whole.specs.declared.Reached.{Reached}
 
@@ -54,9 +54,9 @@ over-start : (l b : List ℕ) → over-at l 0 b ≡ over l b
 unfolding over over-at
 over-start l b = ap (λ (n : ℕ). l ++ drop n b) {x = 0 + length l} {y = length l} (omega arith)
 
--- the processor that columns, words, kept values and a count of ticks make of p
-abbrev pub processorAt : Processor → Rows → Stand → List ℕ → ℕ → Processor
-processorAt p x y recent n = record { mode = p .mode; azimuth = p .azimuth; taken = n; front = y .front; recent = recent; machine = machineAt x (y .counts) }
+-- the processor that p has become, how far it came, with kept values and a count of ticks
+abbrev pub processorAt : Processor → Progress → List ℕ → ℕ → Processor
+processorAt p y recent n = record { mode = p .mode; azimuth = p .azimuth; taken = n; front = y .front; recent = recent; machine = y .machine }
 
 -- ---- a piece, from the processor of the trace before
 
@@ -66,35 +66,33 @@ pub record Reaches (mode azimuth : ℕ) (T P : Trace) (at : ℕ) (b : List ℕ) 
   pub place : r .at ≡ at + 18 * length (fresh standard T P)
   pub buffer : b′ ≡ over-at (records (fresh standard T P)) at b
 
--- X is known of the columns before, and then Y of those after
-pub record TakesAt (X Y : Type 0) (p : Processor) (P : Trace) (at : ℕ) (b : List ℕ) (r : Reached) (b′ : List ℕ) : Type 0 where
+pub record TakesAt (p : Processor) (P : Trace) (at : ℕ) (b : List ℕ) (r : Reached) (b′ : List ℕ) : Type 0 where
   pub inside : r .at ≤ length b
-  pub result : X → (mode azimuth : ℕ) (T : Trace) → Made (running mode azimuth T) p → takeVerdict (running mode azimuth T) P (length b - at) ≡ accepted
-      → Reaches mode azimuth T P at b r b′ × Y
+  pub result : (mode azimuth : ℕ) (T : Trace) → Made (running mode azimuth T) p → takeVerdict (running mode azimuth T) P (length b - at) ≡ accepted → Reaches mode azimuth T P at b r b′
 
-module _ (p : Processor) (x : Rows) (o : Stand) (recent : List ℕ) (base : ℕ) (P : Trace) (at : ℕ) (b : List ℕ) (here : at ≤ length b) (bytes : All (λ v. v ≤ 255) (P .values))
+module _ (p : Processor) (o : Progress) (recent : List ℕ) (base : ℕ) (P : Trace) (at : ℕ) (b : List ℕ) (here : at ≤ length b) (bytes : All (λ v. v ≤ 255) (P .values))
     (n : ℕ) (ticks : n ≡ base + length (P .flags)) (kept : List ℕ) (keeps : KeepPost recent (P .values) kept) where
   unfoldable pub q : Processor
-  q = processorAt p x o recent base
+  q = processorAt p o recent base
 
-  module _ (start : o .at ≡ 0) (x′ : Rows) (y : Stand) (m′ : List ℕ) (post : ColumnsPost x o recent base (P .flags) (P .values) (midOf at (length b - at) b) x′ y m′) where
-    module _ (T : Trace) (z : Sized x) (g : Begins T (runOf x o) recent base (P .flags) (P .values) (drop at b)) where
-      fed : FedColumns T P (drop at b) x′ y m′
+  module _ (start : o .at ≡ 0) (y : Progress) (m′ : List ℕ) (post : FeedPost o recent base (P .flags) (P .values) (midOf at (length b - at) b) y m′) where
+    module _ (T : Trace) (g : Begins T o recent base (P .flags) (P .values) (drop at b)) where
+      fed : Fed T P (drop at b) y m′
       fed =
-          subst (λ (l : List ℕ). FedColumns T P l x′ y m′) (mid-is at b)
-          (post .result z T (subst (λ (l : List ℕ). Begins T (runOf x o) recent base (P .flags) (P .values) l) (sym (mid-is at b)) g))
+          subst (λ (l : List ℕ). Fed T P l y m′) (mid-is at b)
+          (post .result T (subst (λ (l : List ℕ). Begins T o recent base (P .flags) (P .values) l) (sym (mid-is at b)) g))
 
       few : 18 * length (fresh standard T P) ≤ length b - at
       few = omega (arith, g .room, fresh-most standard T P, length-drop at b)
 
       whole-is : putMid at (length b - at) b m′ ≡ over-at (records (fresh standard T P)) at b
       whole-is =
-          ap₂ (λ (y z : List ℕ). take at b ++ (y ++ z)) (fed .fed .buffer ∙ over-start (records (fresh standard T P)) (drop at b)) (post-is at b here)
+          ap₂ (λ (y z : List ℕ). take at b ++ (y ++ z)) (fed .buffer ∙ over-start (records (fresh standard T P)) (drop at b)) (post-is at b here)
           ∙ ap (λ (y : List ℕ). take at b ++ y) (append-nil (over (records (fresh standard T P)) (drop at b)))
           ∙ over-rest (records (fresh standard T P)) at b
 
     begins : (mode azimuth : ℕ) (T : Trace) → Made (running mode azimuth T) q → takeVerdict (running mode azimuth T) P (length b - at) ≡ accepted
-        → Begins T (runOf x o) recent base (P .flags) (P .values) (drop at b)
+        → Begins T o recent base (P .flags) (P .values) (drop at b)
     unfolding processorOf takeVerdict q
     begins mode azimuth T m v =
         let is = m .is in
@@ -115,46 +113,41 @@ module _ (p : Processor) (x : Rows) (o : Stand) (recent : List ℕ) (base : ℕ)
 
     -- the records of a piece, in the rest of the buffer
     pub piece-fed : (to : ℕ) → to ≡ at + 18 * min (y .at / 18) ((length b - at) / 18)
-        → TakesAt (Sized x) (Sized x′) q P at b (record { processor = processorAt p x′ y kept n; at = to }) (putMid at (length b - at) b m′)
+        → TakesAt q P at b (record { processor = processorAt p y kept n; at = to }) (putMid at (length b - at) b m′)
     unfolding processorOf runningProcessor q
     piece-fed to e =
         record {
           inside = omega (arith, e);
-          result = λ z mode azimuth T m v.
+          result = λ mode azimuth T m v.
               let is = m .is in
               let g = begins mode azimuth T m v in
-              let f = fed T z g in
+              let f = fed T g in
               let e1 = mode-of mode azimuth T q is in
               let e2 = azimuth-of mode azimuth T q is in
               let e3 : n ≡ length (T .flags ++ P .flags) = omega (arith, ticks, taken-of mode azimuth T q is, length-append (T .flags) (P .flags)) in
-              let e4 = f .fed .front in
+              let e4 = f .front in
               let e5 = keeps .result (T .values) (recent-of mode azimuth T q is) in
-              let e6 = f .fed .machine in (
-                record {
-                  processor = λ i. record { mode = e1 i; azimuth = e2 i; taken = e3 i; front = e4 i; recent = e5 i; machine = e6 i };
-                  place = omega (arith, e, f .fed .place, few T z g);
-                  buffer = whole-is T z g;
-                },
-                f .sized,
-              );
+              let e6 = f .machine in
+              record {
+                processor = λ i. record { mode = e1 i; azimuth = e2 i; taken = e3 i; front = e4 i; recent = e5 i; machine = e6 i };
+                place = omega (arith, e, f .place, few T g);
+                buffer = whole-is T g;
+              };
         }
 
   -- a piece that finds nothing is taken in place
-  pub piece-quiet : length (P .flags) ≡ length (P .values) → (r : Bool) → QuietPost (o .front) (x .f1) base (P .flags) r → r ≡ true
-      → TakesAt (Sized x) (Sized x) q P at b (record { processor = processorAt p x o kept n; at = at }) b
+  pub piece-quiet : length (P .flags) ≡ length (P .values) → quiet (o .front) (o .machine .places .p0) base (P .flags) ≡ true
+      → TakesAt q P at b (record { processor = processorAt p o kept n; at = at }) b
   unfolding processorOf q
-  piece-quiet alike r quiet is =
+  piece-quiet alike is =
       record {
         inside = here;
-        result = λ z mode azimuth T m v.
-            let w =
-            quiet .result is q (record { ticks = refl; words = refl; rows = x; counts = o .counts; first = refl; sized = z; machine = refl }) mode azimuth T (P .values) m alike bytes in
-            let k = keeps .result (T .values) (recent-of mode azimuth T q (m .is)) in (
-              record {
-                processor = (λ i. record { mode = p .mode; azimuth = p .azimuth; taken = ticks i; front = o .front; recent = k i; machine = machineAt x (o .counts) }) ∙ w .processor;
-                place = omega (arith, ap length (w .none-due));
-                buffer = sym (ap (λ (l : List Reply). over-at (records l) at b) (w .none-due) ∙ over-nil at b);
-              },
-              z,
-            );
+        result = λ mode azimuth T m v.
+            let w = quiet-rests (o .front) (o .machine .places .p0) base (P .flags) is q refl refl refl mode azimuth T (P .values) m alike bytes in
+            let k = keeps .result (T .values) (recent-of mode azimuth T q (m .is)) in
+            record {
+              processor = (λ i. record { mode = p .mode; azimuth = p .azimuth; taken = ticks i; front = o .front; recent = k i; machine = o .machine }) ∙ w .processor;
+              place = omega (arith, ap length (w .none-due));
+              buffer = sym (ap (λ (l : List Reply). over-at (records l) at b) (w .none-due) ∙ over-nil at b);
+            };
       }

@@ -10,6 +10,7 @@ use borrow.Author.Tests.{eq-eqb, le-ltb}
 use borrow.Rule.Slice.PartMut.{midOf, putMid}
 use Rattle.rules.specs.declared.Reply.{Reply}
 use Rattle.rules.specs.declared.Totals.{Totals}
+use Rattle.rules.specs.declared.Place.{Place}
 use Rattle.rules.specs.Settings.{standard}
 use Rattle.rules.specs.Lists.{any, All}
 use Rattle.rules.specs.Samples.{Trace, _⧺_, bad, pieceLimit, sweepLimit}
@@ -21,20 +22,16 @@ use Rattle.rules.proofs.Buffers.{over-at-more}
 use Rattle.rules.proofs.Joining.{handed-fresh, handed-done, records-append, records-length}
 use Rattle.rules.proofs.HandingOut.{fresh-most, rest-most}
 use Rattle.frames.specs.Writing.{totalsBytes}
-use lib.Ieee.{Float}
-use Rattle.columns.specs.Columns.{Rows, Sized, placesOf}
-use Rattle.lanes.specs.Post.{LoadPost}
 use Rattle.sweep.specs.declared.Answer.the-variants.{Accepted, Refused}
 use Rattle.sweep.specs.declared.Processor.{Processor}
 use Rattle.sweep.specs.declared.Closed.{Closed}
-use Rattle.blocks.specs.declared.Stand.{Stand}
+use Rattle.blocks.specs.declared.Progress.{Progress}
 use Rattle.sweep.specs.State.{running, runningProcessor, processorOf, Made}
-use Rattle.sweep.specs.Post.{takeVerdict, closeVerdict, closeAs, closeBufferAs, QuietPost, ClosePost}
-use Rattle.pieces.specs.Feeding.{ColumnsPost}
+use Rattle.sweep.specs.Post.{takeVerdict, closeVerdict, closeAs, closeBufferAs, quiet, ClosePost}
+use Rattle.pieces.specs.Feeding.{FeedPost}
 use Rattle.front.specs.Post.{KeepPost}
 use Rattle.rules.proofs.Answers.{standard-allowed}
 use Rattle.sweep.proofs.Operations.{mode-of, azimuth-of, front-of, recent-of, machine-of}
-use Rattle.blocks.proofs.Working.{loaded}
 use Rattle.whole.specs.declared.Reached.{Reached}
 use Rattle.whole.specs.Post.{arrivedAt, Taken, Takes, TakeAllPost, CloseAtPost}
 use Rattle.whole.proofs.Pieces.{isRefused, countIn, over-rest, mid-is, post-is, processorAt, Reaches, TakesAt, q, piece-fed, piece-quiet}
@@ -115,44 +112,38 @@ up-all T n e a =
 
 -- ---- one piece more
 
-pub record Takings (p : Processor) (T : Trace) (piece : ℕ) (b₀ : List ℕ) (x : Rows) (y : Stand) (recent : List ℕ) (at i : ℕ) (b : List ℕ) : Type 0 where
+pub record Takings (p : Processor) (T : Trace) (piece : ℕ) (b₀ : List ℕ) (y : Progress) (recent : List ℕ) (at i : ℕ) (b : List ℕ) : Type 0 where
   pub size : length b ≡ length b₀
   pub inside : at ≤ length b₀
   pub reach : i ≤ length (T .flags)
   pub start : y .at ≡ 0
   pub result : (mode azimuth : ℕ) → p ≡ runningProcessor mode azimuth (record { flags = []; values = [] }) → Takes mode T piece b₀
-      → Taken mode azimuth (upTo i T) b₀ (record { processor = processorAt p x y recent i; at = at }) b × Sized x
+      → Taken mode azimuth (upTo i T) b₀ (arrivedAt p y recent i at) b
 
 module _ (p : Processor) (T : Trace) (piece : ℕ) (b₀ : List ℕ) (alike : length (T .flags) ≡ length (T .values)) where
-  -- the places of the opened sweep are written to columns
-  pub takings-start : (f n w : List ℕ) (v : List Float) (on f′ n′ w′ : List ℕ) (v′ : List Float) → Sized (record { f1 = f; marks = n; row = w; level = v; on = on })
-      → LoadPost f n w v (p .machine .places) f′ n′ w′ v′
-      → Takings p T piece b₀ (record { f1 = f′; marks = n′; row = w′; level = v′; on = on }) (record { front = p .front; counts = p .machine .counts; at = 0 }) (p .recent) 0 0 b₀
+  -- before the first piece
+  pub takings-start : (y : Progress) → y ≡ record { front = p .front; machine = p .machine; at = 0 } → Takings p T piece b₀ y (p .recent) 0 0 b₀
   unfolding over records runningProcessor
-  takings-start f n w v on f′ n′ w′ v′ z load =
+  takings-start y is =
       record {
         size = refl;
         inside = omega arith;
         reach = omega arith;
-        start = refl;
+        start = ap (λ (z : Progress). z .at) is;
         result = λ mode azimuth e t.
-            let l = loaded (p .machine) nothing 0 (omega arith) (machine-of mode azimuth nothing p e) f n w v f′ n′ w′ v′ on load z in
             let e1 = mode-of mode azimuth nothing p e in
             let e2 = azimuth-of mode azimuth nothing p e in
-            let e4 = front-of mode azimuth nothing p e in
+            let e4 = ap (λ (z : Progress). z .front) is ∙ front-of mode azimuth nothing p e in
             let e5 = recent-of mode azimuth nothing p e in
-            let e6 : record { places = placesOf (record { f1 = f′; marks = n′; row = w′; level = v′; on = on }); counts = p .machine .counts } ≡ p .machine = λ i. record { places = l .places i; counts = p .machine .counts } in
-            let e7 = e6 ∙ machine-of mode azimuth nothing p e in (
-              record {
-                processor = λ i. record { mode = e1 i; azimuth = e2 i; taken = 0; front = e4 i; recent = e5 i; machine = e7 i };
-                place = omega (arith, ap length none-due);
-                buffer = ap (λ (l : List Reply). over (records l) b₀) (sym none-due);
-              },
-              l .sized,
-            );
+            let e6 = ap (λ (z : Progress). z .machine) is ∙ machine-of mode azimuth nothing p e in
+            record {
+              processor = λ i. record { mode = e1 i; azimuth = e2 i; taken = 0; front = e4 i; recent = e5 i; machine = e6 i };
+              place = omega (arith, ap length none-due);
+              buffer = ap (λ (l : List Reply). over (records l) b₀) (sym none-due);
+            };
       }
 
-  module _ (x : Rows) (y : Stand) (recent : List ℕ) (at i end : ℕ) (b : List ℕ) (h : Takings p T piece b₀ x y recent at i b) (more : i < length (T .flags))
+  module _ (y : Progress) (recent : List ℕ) (at i end : ℕ) (b : List ℕ) (h : Takings p T piece b₀ y recent at i b) (more : i < length (T .flags))
       (step : end ≡ i + min piece (length (T .flags) - i)) where
     here : end ≤ length (T .flags)
     here = omega (arith, step)
@@ -169,13 +160,13 @@ module _ (p : Processor) (T : Trace) (piece : ℕ) (b₀ : List ℕ) (alike : le
     alike-i : length (upTo i T .flags) ≡ length (upTo i T .values)
     alike-i = size-i ∙ sym (length-take-le i (T .values) (omega (arith, h .reach, alike)))
 
-    module _ (x′ : Rows) (y′ : Stand) (kept : List ℕ) (to : ℕ) (b′ : List ℕ) (begun : y′ .at ≡ 0)
-        (post : TakesAt (Sized x) (Sized x′) (processorAt p x y recent i) (between i end T) at b (record { processor = processorAt p x′ y′ kept end; at = to }) b′) where
+    module _ (y′ : Progress) (kept : List ℕ) (to : ℕ) (b′ : List ℕ) (begun : y′ .at ≡ 0)
+        (post : TakesAt (processorAt p y recent i) (between i end T) at b (arrivedAt p y′ kept end to) b′) where
       module _ (mode azimuth : ℕ) (e : p ≡ runningProcessor mode azimuth (record { flags = []; values = [] })) (t : Takes mode T piece b₀) where
-        before : Taken mode azimuth (upTo i T) b₀ (record { processor = processorAt p x y recent i; at = at }) b
-        before = h .result mode azimuth e t .0
+        before : Taken mode azimuth (upTo i T) b₀ (arrivedAt p y recent i at) b
+        before = h .result mode azimuth e t
 
-        made : Made (running mode azimuth (upTo i T)) (processorAt p x y recent i)
+        made : Made (running mode azimuth (upTo i T)) (processorAt p y recent i)
         unfolding processorOf
         made =
             record {
@@ -197,30 +188,27 @@ module _ (p : Processor) (T : Trace) (piece : ℕ) (b₀ : List ℕ) (alike : le
               any-take bad (end - i) (drop i (T .flags)) (any-drop bad i (T .flags) (t .good)),
             )
 
-        took : Reaches mode azimuth (upTo i T) (between i end T) at b (record { processor = processorAt p x′ y′ kept end; at = to }) b′ × Sized x′
-        took = post .result (h .result mode azimuth e t .1) mode azimuth (upTo i T) made accept
+        took : Reaches mode azimuth (upTo i T) (between i end T) at b (arrivedAt p y′ kept end to) b′
+        took = post .result mode azimuth (upTo i T) made accept
 
         joined : handed standard (upTo end T) ≡ handed standard (upTo i T) ++ fresh standard (upTo i T) (between i end T)
         joined =
             ap (handed standard) (sym (up-more T i end (omega (arith, step)))) ∙ handed-fresh standard standard-allowed (upTo i T) (between i end T) alike-i
 
-        now-taken : Taken mode azimuth (upTo end T) b₀ (record { processor = processorAt p x′ y′ kept end; at = to }) b′ × Sized x′
+        now-taken : Taken mode azimuth (upTo end T) b₀ (arrivedAt p y′ kept end to) b′
         now-taken =
             let H = handed standard (upTo i T) in
             let F = fresh standard (upTo i T) (between i end T) in
-            let reached = took .0 in (
-              record {
-                processor = reached .processor ∙ ap (runningProcessor mode azimuth) (up-more T i end (omega (arith, step)));
-                place = omega (arith, reached .place, before .place, ap length joined, length-append H F);
-                buffer =
-                    reached .buffer ∙ ap (over-at (records F) at) (before .buffer)
-                    ∙ over-more (records H) (records F) b₀ at (before .place ∙ sym (records-length H)) (h .inside)
-                    ∙ ap (λ (l : List ℕ). over l b₀) (sym (records-append H F) ∙ ap records (sym joined));
-              },
-              took .1,
-            )
+            record {
+              processor = took .processor ∙ ap (runningProcessor mode azimuth) (up-more T i end (omega (arith, step)));
+              place = omega (arith, took .place, before .place, ap length joined, length-append H F);
+              buffer =
+                  took .buffer ∙ ap (over-at (records F) at) (before .buffer)
+                  ∙ over-more (records H) (records F) b₀ at (before .place ∙ sym (records-length H)) (h .inside)
+                  ∙ ap (λ (l : List ℕ). over l b₀) (sym (records-append H F) ∙ ap records (sym joined));
+            }
 
-      takings-next : length b′ ≡ length b → Takings p T piece b₀ x′ y′ kept to end b′
+      takings-next : length b′ ≡ length b → Takings p T piece b₀ y′ kept to end b′
       takings-next l = record { size = l ∙ h .size; inside = omega (arith, post .inside, h .size); reach = here; start = begun; result = now-taken }
 
     -- one that is fed, and one that finds nothing
@@ -234,29 +222,31 @@ module _ (p : Processor) (T : Trace) (piece : ℕ) (b₀ : List ℕ) (alike : le
       ticks : end ≡ i + length (between i end T .flags)
       ticks = omega (arith, size-P, step)
 
-      pub takings-fed : (x′ : Rows) (z : Stand) (m′ : List ℕ) (to : ℕ) → ColumnsPost x y recent i (between i end T .flags) (between i end T .values) (midOf at (length b - at) b) x′ z m′
+      pub takings-fed : (z : Progress) (m′ : List ℕ) (to : ℕ) → FeedPost y recent i (between i end T .flags) (between i end T .values) (midOf at (length b - at) b) z m′
           → to ≡ at + 18 * min (z .at / 18) ((length b - at) / 18) → length (putMid at (length b - at) b m′) ≡ length b
-          → Takings p T piece b₀ x′ (record { front = z .front; counts = z .counts; at = 0 }) kept to end (putMid at (length b - at) b m′)
+          → Takings p T piece b₀ (record { front = z .front; machine = z .machine; at = 0 }) kept to end (putMid at (length b - at) b m′)
       unfolding q
-      takings-fed x′ z m′ to post e l =
-          takings-next x′ (record { front = z .front; counts = z .counts; at = 0 }) kept to (putMid at (length b - at) b m′) refl
-          (piece-fed p x y recent i (between i end T) at b inside-b bytes-P end ticks kept keeps (h .start) x′ z m′ post to e) l
+      takings-fed z m′ to post e l =
+          takings-next (record { front = z .front; machine = z .machine; at = 0 }) kept to (putMid at (length b - at) b m′) refl
+          (piece-fed p y recent i (between i end T) at b inside-b bytes-P end ticks kept keeps (h .start) z m′ post to e) l
 
-      pub takings-quiet : (r : Bool) → QuietPost (y .front) (x .f1) i (between i end T .flags) r → r ≡ true → Takings p T piece b₀ x y kept at end b
+      pub takings-quiet : (first : Place) (r : Bool) → first ≡ y .machine .places .p0 → r ≡ quiet (y .front) first i (between i end T .flags) → r ≡ true → Takings p T piece b₀ y kept at end b
       unfolding q
-      takings-quiet r quiet is =
-          takings-next x y kept at b (h .start) (piece-quiet p x y recent i (between i end T) at b inside-b bytes-P end ticks kept keeps alike-P r quiet is) refl
+      takings-quiet first r f e is =
+          let k : quiet (y .front) (y .machine .places .p0) i (between i end T .flags) ≡ true =
+          ap (λ (x : Place). quiet (y .front) x i (between i end T .flags)) (sym f) ∙ sym e ∙ is in
+          takings-next y kept at b (h .start) (piece-quiet p y recent i (between i end T) at b inside-b bytes-P end ticks kept keeps alike-P k) refl
 
-  pub takings-end : (x : Rows) (y : Stand) (recent : List ℕ) (at i n : ℕ) (b : List ℕ) (r : Reached) → length (T .flags) ≤ i → n ≡ length (T .flags)
-      → r ≡ arrivedAt p y (placesOf x) recent n at → Takings p T piece b₀ x y recent at i b → TakeAllPost p T piece b₀ r b
-  takings-end x y recent at i n b r l k is h =
+  pub takings-end : (y : Progress) (recent : List ℕ) (at i n : ℕ) (b : List ℕ) (r : Reached) → length (T .flags) ≤ i → n ≡ length (T .flags)
+      → r ≡ arrivedAt p y recent n at → Takings p T piece b₀ y recent at i b → TakeAllPost p T piece b₀ r b
+  takings-end y recent at i n b r l k is h =
       let m : n ≡ i = omega (arith, h .reach) in
-      let q : r ≡ record { processor = processorAt p x y recent i; at = at } = is ∙ ap (λ (z : ℕ). arrivedAt p y (placesOf x) recent z at) m in
+      let q : r ≡ arrivedAt p y recent i at = is ∙ ap (λ (z : ℕ). arrivedAt p y recent z at) m in
       record {
         inside = omega (arith, h .inside, ap (λ (z : Reached). z .at) q);
         result = λ mode azimuth e t.
             subst (λ (X : Trace). Taken mode azimuth X b₀ r b) (up-all T i (omega (arith, h .reach)) alike)
-            (subst (λ (z : Reached). Taken mode azimuth (upTo i T) b₀ z b) (sym q) (h .result mode azimuth e t .0));
+            (subst (λ (z : Reached). Taken mode azimuth (upTo i T) b₀ z b) (sym q) (h .result mode azimuth e t));
       }
 
 -- ---- the close

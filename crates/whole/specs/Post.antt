@@ -14,8 +14,7 @@ use Rattle.rules.specs.Calls.{Answer as Verdict, accepted, refused, handed, res
 use Rattle.frames.specs.Writing.{totalsBytes}
 use Rattle.sweep.specs.declared.Processor.{Processor}
 use Rattle.sweep.specs.State.{running, runningProcessor, Made}
-use Rattle.rules.specs.declared.Places.{Places}
-use Rattle.blocks.specs.declared.Stand.{Stand}
+use Rattle.blocks.specs.declared.Progress.{Progress}
 use Rattle.verdicts.specs.Whole.{wholeRoom, wholeAnswer}
 use Rattle.whole.specs.declared.Reached.{Reached}
 
@@ -40,12 +39,9 @@ pub record WholePost (mode azimuth : ℕ) (T : Trace) (piece : ℕ) (b c : List 
 -- ---- all pieces
 
 -- what p has become after n ticks
-abbrev pub arrivedAt : Processor → Stand → Places → List ℕ → ℕ → ℕ → Reached
-arrivedAt p y places recent n at =
-    record {
-      processor = record { mode = p .mode; azimuth = p .azimuth; taken = n; front = y .front; recent = recent; machine = record { places = places; counts = y .counts } };
-      at = at;
-    }
+abbrev pub arrivedAt : Processor → Progress → List ℕ → ℕ → ℕ → Reached
+arrivedAt p y recent n at =
+    record { processor = record { mode = p .mode; azimuth = p .azimuth; taken = n; front = y .front; recent = recent; machine = y .machine }; at = at }
 
 -- all of T, from the processor of its opening on; what is due is at the start of the buffer
 pub record Taken (mode azimuth : ℕ) (T : Trace) (b : List ℕ) (r : Reached) (b′ : List ℕ) : Type 0 where

@@ -44,6 +44,7 @@ fn behind(at: usize, more: usize, n: usize) -> usize
     at + 18 * least(more / 18, (n - at) / 18)
 }
 
+// The first of the four decoders.
 fn first_place(y: Progress) -> Place
     ensures { λ p. ⌜ p ≡ y .machine .places .p0 ⌝ }
 {

@@ -1,19 +1,19 @@
 -- Eight words of eight bytes each, or-ed, four and four: the result is 0 exactly if no byte of the 64 has a bit. Bare blocks and bare bytes in a row are bare.
-use Prim.Native.Nat.{ℕ, zero, suc, _+_, _-_, _*_, _/_, _%_, _^_, _≤_, _<_}
+use Prim.Native.Nat.{ℕ, zero, suc, _+_, _-_, _*_, _/_, _%_, _≤_, _<_}
 use native.Mathlib.Omega.{arith}
 use native.Mathlib.Nat.{add-zero}
 use mathlib.Core.Path.{_≡_, refl, sym, ap, ap₂, _∙_, subst}
 use mathlib.Core.Logic.{⊎-elim}
-use mathlib.Core.Bool.{Bool, true, false, _||_}
-use mathlib.Core.List.{List}
+use mathlib.Core.Bool.{Bool, true, false, _&&_, _||_}
+use mathlib.Core.List.{List, [], _∷_}
 use lib.Dec.{eqb}
 use lib.ListN.{length, getD}
 use lib.Bits.{bitOr, or-lt}
 use borrow.Author.Tests.{eqb-true, eq-eqb}
-use Rattle.rules.proofs.Truth.{or-left, or-right, impossible}
+use Rattle.rules.proofs.Truth.{or-left, or-right, and-left, and-right, impossible}
 use Rattle.plane.specs.Words.{bit}
 use Rattle.packing.specs.Packing.{bytes, Eight}
-use Rattle.packing.specs.Flags.{some, Gathered, BareBlock, Bare}
+use Rattle.packing.specs.Flags.{some, Gathered, BareBlock, noFlags}
 use Rattle.plane.proofs.Cases.{le-or-lt, or-false}
 use Rattle.plane.proofs.BitLaws.{bit-or, bit-above, zero-bit}
 use Rattle.plane.proofs.LowestBit.{no-bits}
@@ -137,8 +137,30 @@ clear-byte f i h e c = record {
   none = λ m l. ⊎-elim (λ (g : i ≤ m). let z : i ≡ m = omega arith in subst (λ (k : ℕ). getD f k 0 ≡ 0) z e) (λ (g : m < i). c .none m g) (le-or-lt i m);
 }
 
-pub clear-last : (f : List ℕ) (i : ℕ) → length f ≤ i → Clear f i → Bare f true
-clear-last f i h c = record { yes = λ e m l. c .none m (omega arith) }
+-- what a piece without flags says of each byte, and the other way round
+pub no-flag-at : (f : List ℕ) → noFlags f ≡ true → (m : ℕ) → getD f m 0 ≡ 0
+no-flag-at [] e m = refl
+no-flag-at (x ∷ f) e zero = eqb-true x 0 (and-left (eqb x 0) (noFlags f) e)
+no-flag-at (x ∷ f) e (suc m) = no-flag-at f (and-right (eqb x 0) (noFlags f) e) m
 
-pub not-clear : (f : List ℕ) → Bare f false
-not-clear f = record { yes = λ e. absurd (impossible (sym e)) }
+no-flag-all : (f : List ℕ) → ((m : ℕ) → m < length f → getD f m 0 ≡ 0) → noFlags f ≡ true
+no-flag-all [] h = refl
+no-flag-all (x ∷ f) h = ap₂ _&&_ (eq-eqb x 0 (h 0 (omega arith))) (no-flag-all f (λ m l. h (suc m) (omega arith)))
+
+pub clear-last : (f : List ℕ) (i : ℕ) → length f ≤ i → Clear f i → true ≡ noFlags f
+clear-last f i h c = sym (no-flag-all f (λ m l. c .none m (omega arith)))
+
+-- a byte that is not 0, or a block that has one
+pub byte-flagged : (f : List ℕ) (i : ℕ) → (getD f i 0 ≡ 0 → ⊥) → false ≡ noFlags f
+byte-flagged f i h = go (noFlags f) refl
+  where
+    go : (r : Bool) → noFlags f ≡ r → false ≡ r
+    go true e = absurd (h (no-flag-at f e i))
+    go false e = refl
+
+pub block-flagged : (f : List ℕ) (o : ℕ) {r : Bool} → BareBlock f o r → r ≡ false → false ≡ noFlags f
+block-flagged f o {r} b h = go (noFlags f) refl
+  where
+    go : (n : Bool) → noFlags f ≡ n → false ≡ n
+    go true e = absurd (impossible (sym (b .no (λ m k l q. ap (λ (x : ℕ). bit x k) (no-flag-at f e (o + m)) ∙ zero-bit k)) ∙ h))
+    go false e = refl

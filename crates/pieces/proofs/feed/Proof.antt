@@ -1,6 +1,6 @@
 -- `feed` feeds a piece within the limit of a sweep.
 use native.Mathlib.Omega.{arith}
-use Rattle.pieces.proofs.Streaming.{feed-over, feed-law}
+use Rattle.pieces.proofs.Pieces.{feed-past, feed-within}
 use Rattle.pieces.proofs.feed.Statement.{statement}
 use Rattle.pieces.proofs.feed.Tie as tie
 
@@ -8,16 +8,20 @@ add-if1 : tie.Need-add-if1
 add-if1 c = omega arith
 
 returns : tie.Need-returns
-returns c = feed-over (c .before .before .before .before .args .o) (c .before .before .before .before .args .recent .now) (c .before .before .before .before .args .base) (c .before .before .before .before .args .flags .now) (c .before .before .before .before .args .values .now) (c .before .before .before .before .args .out .now) (c .if1 .taken)
+returns c =
+    let a = c .before .before .before .before .args in
+    feed-past (a .o) (a .recent .now) (a .base) (a .flags .now) (a .values .now) (a .out .now) (c .if1 .taken)
 
-feed-run-requires : tie.Need-feed-run-requires
-feed-run-requires c κs = omega (arith, c .before .if1 .left)
+feed-blocks-requires : tie.Need-feed-blocks-requires
+feed-blocks-requires c κs = omega (arith, c .before .if1 .left)
 
 same-length : tie.Need-same-length
-same-length c = c .before .before .feed-run .ensures .same
+same-length c = c .before .before .feed-blocks .ensures .same
 
 returns-2 : tie.Need-returns-2
-returns-2 c = feed-law (c .before .before .before .before .before .before .before .before .args .o) (c .before .before .before .before .before .before .before .before .args .recent .now) (c .before .before .before .before .before .before .before .before .args .base) (c .before .before .before .before .before .before .before .before .args .flags .now) (c .before .before .before .before .before .before .before .before .args .values .now) (c .before .before .before .before .before .before .before .before .args .out .now) _ _ (c .before .before .feed-run .ensures)
+returns-2 c =
+    let a = c .before .before .before .before .before .before .before .before .args in
+    feed-within (a .o) (a .recent .now) (a .base) (a .flags .now) (a .values .now) (a .out .now) _ _ (c .before .before .before .before .if1 .left) (c .before .before .feed-blocks .ensures)
 
 pub feed-spec : {M : Type 1} → statement M
-feed-spec = tie.close (tie.spec add-if1 returns feed-run-requires same-length returns-2)
+feed-spec = tie.close (tie.spec add-if1 returns feed-blocks-requires same-length returns-2)

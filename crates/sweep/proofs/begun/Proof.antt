@@ -10,7 +10,9 @@ empty-machine-requires : tie.Need-empty-machine-requires
 empty-machine-requires c κs = search needs
 
 returns : tie.Need-returns
-returns c = begun-law _ _ (c .before .no-front .ensures) (c .empty-machine .ensures) (c .before .before .args .mode) (c .before .before .args .azimuth)
+returns c =
+    let a = c .before .before .args in
+    begun-law _ _ (c .before .no-front .ensures) (c .empty-machine .ensures) (a .mode) (a .azimuth)
 
 pub begun-spec : {M : Type 1} → statement M
 begun-spec = tie.close (tie.spec no-front-requires empty-machine-requires returns)

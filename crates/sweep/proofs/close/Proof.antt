@@ -11,7 +11,9 @@ no-close-requires : tie.Need-no-close-requires
 no-close-requires c κs = search needs
 
 returns : tie.Need-returns
-returns c = close-no (c .before .before .before .before .args .p) (c .before .before .before .before .args .out .now) _ _ (turned-down _ _ (c .before .before .close-refusal .ensures) (c .before .if1 .taken)) (c .no-close .ensures)
+returns c =
+    let a = c .before .before .before .before .args in
+    close-no (a .p) (a .out .now) _ _ (turned-down _ _ (c .before .before .close-refusal .ensures) (c .before .if1 .taken)) (c .no-close .ensures)
 
 close-open-requires : tie.Need-close-open-requires
 close-open-requires c κs = let-through _ _ (c .before .before .close-refusal .ensures) (c .before .if1 .left)

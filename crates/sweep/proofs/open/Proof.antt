@@ -11,13 +11,17 @@ opened-with-requires : tie.Need-opened-with-requires
 opened-with-requires c κs = search needs
 
 returns : tie.Need-returns
-returns c = open-no (c .before .before .before .args .mode) (c .before .before .before .args .azimuth) _ _ (turned-down _ _ (c .before .before .open-refusal .ensures) (c .before .if1 .taken)) (c .opened-with .ensures)
+returns c =
+    let a = c .before .before .before .args in
+    open-no (a .mode) (a .azimuth) _ _ (turned-down _ _ (c .before .before .open-refusal .ensures) (c .before .if1 .taken)) (c .opened-with .ensures)
 
 opened-with-requires-2 : tie.Need-opened-with-requires-2
 opened-with-requires-2 c κs = search needs
 
 returns-2 : tie.Need-returns-2
-returns-2 c = open-yes (c .before .before .before .args .mode) (c .before .before .before .args .azimuth) _ (let-through _ _ (c .before .before .open-refusal .ensures) (c .before .if1 .left)) (c .opened-with2 .ensures)
+returns-2 c =
+    let a = c .before .before .before .args in
+    open-yes (a .mode) (a .azimuth) _ (let-through _ _ (c .before .before .open-refusal .ensures) (c .before .if1 .left)) (c .opened-with2 .ensures)
 
 pub open-spec : {M : Type 1} → statement M
 open-spec = tie.close (tie.spec open-refusal-requires opened-with-requires returns opened-with-requires-2 returns-2)

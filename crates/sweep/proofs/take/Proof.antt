@@ -11,7 +11,9 @@ no-take-requires : tie.Need-no-take-requires
 no-take-requires c κs = search needs
 
 returns : tie.Need-returns
-returns c = take-no (c .before .before .before .before .before .before .args .p) (c .before .before .before .before .before .before .args .flags .now) (c .before .before .before .before .before .before .args .values .now) (c .before .before .before .before .before .before .args .out .now) _ _ (turned-down _ _ (c .before .before .take-refusal .ensures) (c .before .if1 .taken)) (c .no-take .ensures)
+returns c =
+    let a = c .before .before .before .before .before .before .args in
+    take-no (a .p) (a .flags .now) (a .values .now) (a .out .now) _ _ (turned-down _ _ (c .before .before .take-refusal .ensures) (c .before .if1 .taken)) (c .no-take .ensures)
 
 take-piece-requires : tie.Need-take-piece-requires
 take-piece-requires c κs = let-through _ _ (c .before .before .take-refusal .ensures) (c .before .if1 .left)

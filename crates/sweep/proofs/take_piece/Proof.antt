@@ -9,8 +9,8 @@ use borrow.Author.Needs.{needs}
 use Rattle.sweep.proofs.take_piece.Statement.{statement}
 use Rattle.sweep.proofs.take_piece.Tie as tie
 
-run-of-requires : tie.Need-run-of-requires
-run-of-requires c κs = search needs
+progress-of-requires : tie.Need-progress-of-requires
+progress-of-requires c κs = search needs
 
 feed-requires : tie.Need-feed-requires
 feed-requires c κs = search needs
@@ -22,13 +22,18 @@ cast-moved : tie.Need-cast-moved
 cast-moved c = omega (arith, took _ (c .before .before .before .before .before .before .before .before .before .before .before .before .before .args .p .taken) (c .before .before .before .before .before .before .before .before .before .before .before .before .before .args .flags .now) (c .before .before .before .before .before .before .before .before .before .before .before .before .before .args .values .now) _ (c .before .before .before .before .before .before .before .before .before .before .before .before .before .pre) .piece)
 
 moved-requires : tie.Need-moved-requires
-moved-requires c κs = took _ (c .before .before .before .before .before .before .before .before .before .before .before .before .before .args .p .taken) (c .before .before .before .before .before .before .before .before .before .before .before .before .before .args .flags .now) (c .before .before .before .before .before .before .before .before .before .before .before .before .before .args .values .now) _ (c .before .before .before .before .before .before .before .before .before .before .before .before .before .pre) .sweep
+moved-requires c κs =
+    let a = c .before .before .before .before .before .before .before .before .before .before .before .before .before .args in
+    took _ (a .p .taken) (a .flags .now) (a .values .now) _ (c .before .before .before .before .before .before .before .before .before .before .before .before .before .pre) .sweep
 
 same-length : tie.Need-same-length
 same-length c = search needs
 
 returns : tie.Need-returns
-returns c = take-done (c .before .before .before .before .before .before .before .before .before .before .before .before .before .before .args .p) (c .before .before .before .before .before .before .before .before .before .before .before .before .before .before .args .flags .now) (c .before .before .before .before .before .before .before .before .before .before .before .before .before .before .args .values .now) (c .before .before .before .before .before .before .before .before .before .before .before .before .before .before .args .out .now) (c .before .before .before .before .before .before .before .before .before .before .before .before .before .before .pre) (λ i. omega (arith, c .before .before .before .before .before .before .before .before .before .before .before .before .shared-slice-known2 .given i)) _ (c .before .before .before .before .before .before .feed .result) _ _ (c .before .before .before .before .before .before .before .before .before .run-of .ensures) (c .before .before .before .before .before .before .feed .ensures) (c .before .before .keep .ensures) _ (ap (λ (q : Processor). record { answer = Accepted (c .before .before .before .before .before .before .feed .result .at / 18); processor = q }) (c .moved .ensures))
+returns c =
+    let feed = c .before .before .before .before .before .before .feed in
+    let a = c .before .before .before .before .before .before .before .before .before .before .before .before .before .before .args in
+    take-done (a .p) (a .flags .now) (a .values .now) (a .out .now) (c .before .before .before .before .before .before .before .before .before .before .before .before .before .before .pre) (λ i. omega (arith, c .before .before .before .before .before .before .before .before .before .before .before .before .shared-slice-known2 .given i)) _ (feed .result) _ _ (c .before .before .before .before .before .before .before .before .before .progress-of .ensures) (feed .ensures) (c .before .before .keep .ensures) _ (ap (λ (q : Processor). record { answer = Accepted (feed .result .at / 18); processor = q }) (c .moved .ensures))
 
 pub take-piece-spec : {M : Type 1} → statement M
-take-piece-spec = tie.close (tie.spec run-of-requires feed-requires keep-requires cast-moved moved-requires same-length returns)
+take-piece-spec = tie.close (tie.spec progress-of-requires feed-requires keep-requires cast-moved moved-requires same-length returns)

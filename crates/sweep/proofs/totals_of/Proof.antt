@@ -2,14 +2,10 @@ use Rattle.sweep.proofs.Operations.{no-replies}
 use borrow.Author.Needs.{needs}
 use Rattle.sweep.proofs.totals_of.Statement.{statement}
 use Rattle.sweep.proofs.totals_of.Tie as tie
-use Rattle.sweep.proofs.totals_of.Reads as reads
-use Rattle.sweep.proofs.totals_of.Lts as lts
 
--- src/lib.rt:184:9
 returns : tie.Need-returns
 returns c = no-replies (c .before .before .args .c) (c .if1 .taken)
 
--- src/lib.rt:180:1
 returns-2 : tie.Need-returns-2
 returns-2 c = search needs
 

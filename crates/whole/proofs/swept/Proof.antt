@@ -24,7 +24,9 @@ same-length-2 : tie.Need-same-length-2
 same-length-2 c = search needs
 
 returns : tie.Need-returns
-returns c = whole-accepted (c .before .before .before .before .before .before .before .before .before .before .before .before .before .before .before .before .before .before .args .mode) (c .before .before .before .before .before .before .before .before .before .before .before .before .before .before .before .before .before .before .args .azimuth) (record { flags = c .before .before .before .before .before .before .before .before .before .before .before .before .before .before .before .before .before .before .args .flags .now; values = c .before .before .before .before .before .before .before .before .before .before .before .before .before .before .before .before .before .before .args .values .now }) (c .before .before .before .before .before .before .before .before .before .before .before .before .before .before .before .before .before .before .args .piece) (c .before .before .before .before .before .before .before .before .before .before .before .before .before .before .before .before .before .before .args .out .now) (c .before .before .before .before .before .before .before .before .before .before .before .before .before .before .before .before .before .before .args .totals .now) (clear (c .before .before .before .before .before .before .before .before .before .before .before .before .before .before .before .before .before .before .args .mode) (c .before .before .before .before .before .before .before .before .before .before .before .before .before .before .before .before .before .before .args .azimuth) (record { flags = c .before .before .before .before .before .before .before .before .before .before .before .before .before .before .before .before .before .before .args .flags .now; values = c .before .before .before .before .before .before .before .before .before .before .before .before .before .before .before .before .before .before .args .values .now }) (c .before .before .before .before .before .before .before .before .before .before .before .before .before .before .before .before .before .before .args .piece) (c .before .before .before .before .before .before .before .before .before .before .before .before .before .before .before .before .before .before .args .out .now) (c .before .before .before .before .before .before .before .before .before .before .before .before .before .before .before .before .before .before .args .totals .now) (c .before .before .before .before .before .before .before .before .before .before .before .before .before .before .before .before .before .before .pre)) (all-bytes (c .before .before .before .before .before .before .before .before .before .before .before .before .before .before .before .before .before .before .args .values .now) (λ i. omega (arith, c .before .before .before .before .before .before .before .before .before .before .before .before .before .before .before .before .shared-slice-known2 .given i))) _ (c .before .before .before .before .before .before .before .before .before .before .before .before .before .«open» .ensures) _ _ (c .before .before .before .before .before .before .before .before .before .before .take-all .ensures) _ _ _ (c .before .before .before .before .close-at .ensures) (omega (arith, c .before .before .before .before .before .before .before .before .before .out .given))
+returns c =
+    let a = c .before .before .before .before .before .before .before .before .before .before .before .before .before .before .before .before .before .before .args in
+    whole-accepted (a .mode) (a .azimuth) (record { flags = a .flags .now; values = a .values .now }) (a .piece) (a .out .now) (a .totals .now) (clear (a .mode) (a .azimuth) (record { flags = a .flags .now; values = a .values .now }) (a .piece) (a .out .now) (a .totals .now) (c .before .before .before .before .before .before .before .before .before .before .before .before .before .before .before .before .before .before .pre)) (all-bytes (a .values .now) (λ i. omega (arith, c .before .before .before .before .before .before .before .before .before .before .before .before .before .before .before .before .shared-slice-known2 .given i))) _ (c .before .before .before .before .before .before .before .before .before .before .before .before .before .«open» .ensures) _ _ (c .before .before .before .before .before .before .before .before .before .before .take-all .ensures) _ _ _ (c .before .before .before .before .close-at .ensures) (omega (arith, c .before .before .before .before .before .before .before .before .before .out .given))
 
 pub swept-spec : {M : Type 1} → statement M
 swept-spec = tie.close (tie.spec open-requires take-all-requires close-at-requires cast-result same-length same-length-2 returns)

@@ -8,16 +8,19 @@ use Rattle.whole.proofs.take_all.Statement.{statement}
 use Rattle.whole.proofs.take_all.Tie as tie
 
 abbrev Inv-loop : tie.InvT-loop
-Inv-loop p flags values piece out₀ n f1₀ marks₀ row₀ level₀ on₀ run₀ recent₀ at₀ i₀ out f1 marks row level on run recent at i = Takings p (record { flags = flags; values = values }) piece out₀ (record { f1 = f1; marks = marks; row = row; level = level; on = on }) run recent at i out
+Inv-loop p flags values piece out₀ n y₀ recent₀ at₀ i₀ out y recent at i = Takings p (record { flags = flags; values = values }) piece out₀ y recent at i out
 
 abbrev μ-loop : tie.MeasureT-loop
-μ-loop p flags values piece out₀ n f1₀ marks₀ row₀ level₀ on₀ run₀ recent₀ at₀ i₀ out f1 marks row level on run recent at i = length flags - i
+μ-loop p flags values piece out₀ n y₀ recent₀ at₀ i₀ out y recent at i = length flags - i
 
-load-requires : tie.Need-load-requires Inv-loop μ-loop
-load-requires c κs = tt
+progress-of-requires : tie.Need-progress-of-requires Inv-loop μ-loop
+progress-of-requires c κs = tt
 
 loop-holds : tie.Need-loop-holds Inv-loop μ-loop
-loop-holds c = takings-start (c .before .before .before .before .before .before .before .before .before .before .before .before .before .args .p) (record { flags = c .before .before .before .before .before .before .before .before .before .before .before .before .before .args .flags .now; values = c .before .before .before .before .before .before .before .before .before .before .before .before .before .args .values .now }) (c .before .before .before .before .before .before .before .before .before .before .before .before .before .args .piece) (c .before .before .before .before .before .before .before .before .before .before .before .before .before .args .out .now) (c .before .before .before .before .before .before .before .before .before .before .before .before .before .pre .0) _ _ _ _ _ (c .before .before .before .load .last .0) (c .before .before .before .load .last .1 .0) (c .before .before .before .load .last .1 .1 .0) (c .before .before .before .load .last .1 .1 .1 .0) (record { f1 = refl; marks = refl; row = refl; level = refl; on = refl }) (c .before .before .before .load .ensures)
+loop-holds c =
+    let progressof = c .before .progress-of in
+    let a = c .before .before .before .before .before .args in
+    takings-start (a .p) (record { flags = a .flags .now; values = a .values .now }) (a .piece) (a .out .now) (c .before .before .before .before .before .pre .0) (progressof .result) (progressof .ensures)
 
 sub-least : tie.Need-sub-least Inv-loop μ-loop
 sub-least c = omega arith
@@ -26,106 +29,121 @@ least-requires : tie.Need-least-requires Inv-loop μ-loop
 least-requires c κs = tt
 
 add-end : tie.Need-add-end Inv-loop μ-loop
-add-end c = omega (arith, c .least .ensures)
+add-end c = omega arith
+
+first-place-requires : tie.Need-first-place-requires Inv-loop μ-loop
+first-place-requires c κs = tt
 
 cast-is-quiet : tie.Need-cast-is-quiet Inv-loop μ-loop
-cast-is-quiet c = omega (arith, c .before .least .ensures, c .before .before .before .before .before .before .before .before .before .before .before .before .before .before .before .before .before .pre .0, c .before .before .before .before .before .before .before .before .before .before .before .before .before .before .before .before .before .pre .1, c .before .before .before .before .before .before .before .before .before .before .before .before .before .before .before .before .before .pre .2, c .before .before .loop-test .taken, c .before .before .before .loop .inv .reach)
+cast-is-quiet c = omega arith
 
 sub-is-quiet : tie.Need-sub-is-quiet Inv-loop μ-loop
-sub-is-quiet c = omega (arith, c .before .least .ensures, c .before .before .before .before .before .before .before .before .before .before .before .before .before .before .before .before .before .pre .0, c .before .before .before .before .before .before .before .before .before .before .before .before .before .before .before .before .before .pre .1, c .before .before .before .before .before .before .before .before .before .before .before .before .before .before .before .before .before .pre .2, c .before .before .loop-test .taken, c .before .before .before .loop .inv .reach)
+sub-is-quiet c = omega arith
 
 part-is-quiet-start : tie.Need-part-is-quiet-start Inv-loop μ-loop
-part-is-quiet-start c = omega (arith, c .before .least .ensures, c .before .before .before .before .before .before .before .before .before .before .before .before .before .before .before .before .before .pre .0, c .before .before .before .before .before .before .before .before .before .before .before .before .before .before .before .before .before .pre .1, c .before .before .before .before .before .before .before .before .before .before .before .before .before .before .before .before .before .pre .2, c .before .before .loop-test .taken, c .before .before .before .loop .inv .reach)
+part-is-quiet-start c = omega arith
 
 part-is-quiet-end : tie.Need-part-is-quiet-end Inv-loop μ-loop
-part-is-quiet-end c = omega (arith, c .before .least .ensures, c .before .before .before .before .before .before .before .before .before .before .before .before .before .before .before .before .before .pre .0, c .before .before .before .before .before .before .before .before .before .before .before .before .before .before .before .before .before .pre .1, c .before .before .before .before .before .before .before .before .before .before .before .before .before .before .before .before .before .pre .2, c .before .before .loop-test .taken, c .before .before .before .loop .inv .reach)
+part-is-quiet-end c = omega arith
 
 is-quiet-requires : tie.Need-is-quiet-requires Inv-loop μ-loop
 is-quiet-requires c κs = tt
 
 sub-keep : tie.Need-sub-keep Inv-loop μ-loop
-sub-keep c = omega (arith, c .before .before .before .before .before .least .ensures, c .before .before .before .before .before .before .before .before .before .before .before .before .before .before .before .before .before .before .before .before .before .pre .0, c .before .before .before .before .before .before .before .before .before .before .before .before .before .before .before .before .before .before .before .before .before .pre .1, c .before .before .before .before .before .before .before .before .before .before .before .before .before .before .before .before .before .before .before .before .before .pre .2, c .before .before .before .before .before .before .loop-test .taken, c .before .before .before .before .before .before .before .loop .inv .reach)
+sub-keep c = omega arith
 
 part-keep-start : tie.Need-part-keep-start Inv-loop μ-loop
-part-keep-start c = omega (arith, c .before .before .before .before .before .least .ensures, c .before .before .before .before .before .before .before .before .before .before .before .before .before .before .before .before .before .before .before .before .before .pre .0, c .before .before .before .before .before .before .before .before .before .before .before .before .before .before .before .before .before .before .before .before .before .pre .1, c .before .before .before .before .before .before .before .before .before .before .before .before .before .before .before .before .before .before .before .before .before .pre .2, c .before .before .before .before .before .before .loop-test .taken, c .before .before .before .before .before .before .before .loop .inv .reach)
+part-keep-start c = omega arith
 
 part-keep-end : tie.Need-part-keep-end Inv-loop μ-loop
-part-keep-end c = omega (arith, c .before .before .before .before .before .least .ensures, c .before .before .before .before .before .before .before .before .before .before .before .before .before .before .before .before .before .before .before .before .before .pre .0, c .before .before .before .before .before .before .before .before .before .before .before .before .before .before .before .before .before .before .before .before .before .pre .1, c .before .before .before .before .before .before .before .before .before .before .before .before .before .before .before .before .before .before .before .before .before .pre .2, c .before .before .before .before .before .before .loop-test .taken, c .before .before .before .before .before .before .before .loop .inv .reach)
+part-keep-end c = omega arith
 
 keep-requires : tie.Need-keep-requires Inv-loop μ-loop
 keep-requires c κs = tt
 
 loop-less : tie.Need-loop-less Inv-loop μ-loop
-loop-less c = omega (arith, c .before .before .before .before .before .before .before .least .ensures, c .before .before .before .before .before .before .before .before .before .before .before .before .before .before .before .before .before .before .before .before .before .before .before .pre .0, c .before .before .before .before .before .before .before .before .before .before .before .before .before .before .before .before .before .before .before .before .before .before .before .pre .1, c .before .before .before .before .before .before .before .before .before .before .before .before .before .before .before .before .before .before .before .before .before .before .before .pre .2, c .before .before .before .before .before .before .before .before .loop-test .taken, c .before .before .before .before .before .before .before .before .before .loop .inv .reach)
+loop-less c = omega arith
 
 loop-again : tie.Need-loop-again Inv-loop μ-loop
-loop-again c = takings-quiet (c .before .before .before .before .before .before .before .before .before .before .before .before .before .before .before .before .before .before .before .before .before .before .before .args .p) (record { flags = c .before .before .before .before .before .before .before .before .before .before .before .before .before .before .before .before .before .before .before .before .before .before .before .args .flags .now; values = c .before .before .before .before .before .before .before .before .before .before .before .before .before .before .before .before .before .before .before .before .before .before .before .args .values .now }) (c .before .before .before .before .before .before .before .before .before .before .before .before .before .before .before .before .before .before .before .before .before .before .before .args .piece) (c .before .before .before .before .before .before .before .before .before .before .before .before .before .before .before .before .before .before .before .before .before .before .before .args .out .now) (c .before .before .before .before .before .before .before .before .before .before .before .before .before .before .before .before .before .before .before .before .before .before .before .pre .0) (record { f1 = c .before .before .before .before .before .before .before .before .before .loop .f1; marks = c .before .before .before .before .before .before .before .before .before .loop .marks; row = c .before .before .before .before .before .before .before .before .before .loop .row; level = c .before .before .before .before .before .before .before .before .before .loop .level; on = c .before .before .before .before .before .before .before .before .before .loop .on }) (c .before .before .before .before .before .before .before .before .before .loop .run) (c .before .before .before .before .before .before .before .before .before .loop .recent) (c .before .before .before .before .before .before .before .before .before .loop .at) (c .before .before .before .before .before .before .before .before .before .loop .i) _ (c .before .before .before .before .before .before .before .before .before .loop .out) (c .before .before .before .before .before .before .before .before .before .loop .inv) (c .before .before .before .before .before .before .before .before .loop-test .taken) (ap (λ (n : ℕ). c .before .before .before .before .before .before .before .before .before .loop .i + n) (c .before .before .before .before .before .before .before .least .ensures)) (all-bytes (c .before .before .before .before .before .before .before .before .before .before .before .before .before .before .before .before .before .before .before .before .before .before .before .args .values .now) (λ k. omega (arith, c .before .before .before .before .before .before .before .before .before .before .before .before .before .before .before .before .before .before .before .before .before .shared-slice-known2 .given k))) _ (c .keep .ensures) _ (c .before .before .before .before .is-quiet .ensures) (c .before .before .before .if1 .taken)
+loop-again c =
+    let firstplace = c .before .before .before .before .before .before .first-place in
+    let l = c .before .before .before .before .before .before .before .before .before .loop in
+    let a = c .before .before .before .before .before .before .before .before .before .before .before .before .before .before .before .args in
+    takings-quiet (a .p) (record { flags = a .flags .now; values = a .values .now }) (a .piece) (a .out .now) (c .before .before .before .before .before .before .before .before .before .before .before .before .before .before .before .pre .0) (l .y) (l .recent) (l .at) (l .i) _ (l .out) (l .inv) (c .before .before .before .before .before .before .before .before .loop-test .taken) (ap (λ (n : ℕ). l .i + n) (c .before .before .before .before .before .before .before .least .ensures)) (all-bytes (a .values .now) (λ k. omega (arith, c .before .before .before .before .before .before .before .before .before .before .before .before .before .shared-slice-known2 .given k))) _ (c .keep .ensures) (firstplace .result) _ (firstplace .ensures) (c .before .before .before .before .is-quiet .ensures) (c .before .before .before .if1 .taken)
 
-cast-feed-columns : tie.Need-cast-feed-columns Inv-loop μ-loop
-cast-feed-columns c = omega (arith, c .before .before .before .before .before .before .before .before .before .before .least .ensures, c .before .before .before .before .before .before .before .before .before .before .before .before .before .before .before .before .before .before .before .before .before .before .before .before .before .before .pre .0, c .before .before .before .before .before .before .before .before .before .before .before .before .before .before .before .before .before .before .before .before .before .before .before .before .before .before .pre .1, c .before .before .before .before .before .before .before .before .before .before .before .before .before .before .before .before .before .before .before .before .before .before .before .before .before .before .pre .2, c .before .before .before .before .before .before .before .before .before .before .before .loop-test .taken, c .before .before .before .before .before .before .before .before .before .before .before .before .loop .inv .reach)
+cast-feed : tie.Need-cast-feed Inv-loop μ-loop
+cast-feed c = omega arith
 
-sub-feed-columns : tie.Need-sub-feed-columns Inv-loop μ-loop
-sub-feed-columns c = omega (arith, c .before .before .before .before .before .before .before .before .before .before .least .ensures, c .before .before .before .before .before .before .before .before .before .before .before .before .before .before .before .before .before .before .before .before .before .before .before .before .before .before .pre .0, c .before .before .before .before .before .before .before .before .before .before .before .before .before .before .before .before .before .before .before .before .before .before .before .before .before .before .pre .1, c .before .before .before .before .before .before .before .before .before .before .before .before .before .before .before .before .before .before .before .before .before .before .before .before .before .before .pre .2, c .before .before .before .before .before .before .before .before .before .before .before .loop-test .taken, c .before .before .before .before .before .before .before .before .before .before .before .before .loop .inv .reach)
+sub-feed : tie.Need-sub-feed Inv-loop μ-loop
+sub-feed c = omega arith
 
-part-feed-columns-start : tie.Need-part-feed-columns-start Inv-loop μ-loop
-part-feed-columns-start c = omega (arith, c .before .before .before .before .before .before .before .before .before .before .least .ensures, c .before .before .before .before .before .before .before .before .before .before .before .before .before .before .before .before .before .before .before .before .before .before .before .before .before .before .pre .0, c .before .before .before .before .before .before .before .before .before .before .before .before .before .before .before .before .before .before .before .before .before .before .before .before .before .before .pre .1, c .before .before .before .before .before .before .before .before .before .before .before .before .before .before .before .before .before .before .before .before .before .before .before .before .before .before .pre .2, c .before .before .before .before .before .before .before .before .before .before .before .loop-test .taken, c .before .before .before .before .before .before .before .before .before .before .before .before .loop .inv .reach)
+part-feed-start : tie.Need-part-feed-start Inv-loop μ-loop
+part-feed-start c = omega arith
 
-part-feed-columns-end : tie.Need-part-feed-columns-end Inv-loop μ-loop
-part-feed-columns-end c = omega (arith, c .before .before .before .before .before .before .before .before .before .before .least .ensures, c .before .before .before .before .before .before .before .before .before .before .before .before .before .before .before .before .before .before .before .before .before .before .before .before .before .before .pre .0, c .before .before .before .before .before .before .before .before .before .before .before .before .before .before .before .before .before .before .before .before .before .before .before .before .before .before .pre .1, c .before .before .before .before .before .before .before .before .before .before .before .before .before .before .before .before .before .before .before .before .before .before .before .before .before .before .pre .2, c .before .before .before .before .before .before .before .before .before .before .before .loop-test .taken, c .before .before .before .before .before .before .before .before .before .before .before .before .loop .inv .reach)
+part-feed-end : tie.Need-part-feed-end Inv-loop μ-loop
+part-feed-end c = omega arith
 
-sub-feed-columns-2 : tie.Need-sub-feed-columns-2 Inv-loop μ-loop
-sub-feed-columns-2 c = omega (arith, c .before .before .before .before .before .before .before .before .before .before .before .least .ensures, c .before .before .before .before .before .before .before .before .before .before .before .before .before .before .before .before .before .before .before .before .before .before .before .before .before .before .before .pre .0, c .before .before .before .before .before .before .before .before .before .before .before .before .before .before .before .before .before .before .before .before .before .before .before .before .before .before .before .pre .1, c .before .before .before .before .before .before .before .before .before .before .before .before .before .before .before .before .before .before .before .before .before .before .before .before .before .before .before .pre .2, c .before .before .before .before .before .before .before .before .before .before .before .before .loop-test .taken, c .before .before .before .before .before .before .before .before .before .before .before .before .before .loop .inv .reach)
+sub-feed-2 : tie.Need-sub-feed-2 Inv-loop μ-loop
+sub-feed-2 c = omega arith
 
-part-feed-columns-start-2 : tie.Need-part-feed-columns-start-2 Inv-loop μ-loop
-part-feed-columns-start-2 c = omega (arith, c .before .before .before .before .before .before .before .before .before .before .before .least .ensures, c .before .before .before .before .before .before .before .before .before .before .before .before .before .before .before .before .before .before .before .before .before .before .before .before .before .before .before .pre .0, c .before .before .before .before .before .before .before .before .before .before .before .before .before .before .before .before .before .before .before .before .before .before .before .before .before .before .before .pre .1, c .before .before .before .before .before .before .before .before .before .before .before .before .before .before .before .before .before .before .before .before .before .before .before .before .before .before .before .pre .2, c .before .before .before .before .before .before .before .before .before .before .before .before .loop-test .taken, c .before .before .before .before .before .before .before .before .before .before .before .before .before .loop .inv .reach)
+part-feed-start-2 : tie.Need-part-feed-start-2 Inv-loop μ-loop
+part-feed-start-2 c = omega arith
 
-part-feed-columns-end-2 : tie.Need-part-feed-columns-end-2 Inv-loop μ-loop
-part-feed-columns-end-2 c = omega (arith, c .before .before .before .before .before .before .before .before .before .before .before .least .ensures, c .before .before .before .before .before .before .before .before .before .before .before .before .before .before .before .before .before .before .before .before .before .before .before .before .before .before .before .pre .0, c .before .before .before .before .before .before .before .before .before .before .before .before .before .before .before .before .before .before .before .before .before .before .before .before .before .before .before .pre .1, c .before .before .before .before .before .before .before .before .before .before .before .before .before .before .before .before .before .before .before .before .before .before .before .before .before .before .before .pre .2, c .before .before .before .before .before .before .before .before .before .before .before .before .loop-test .taken, c .before .before .before .before .before .before .before .before .before .before .before .before .before .loop .inv .reach)
+part-feed-end-2 : tie.Need-part-feed-end-2 Inv-loop μ-loop
+part-feed-end-2 c = omega arith
 
-sub-feed-columns-3 : tie.Need-sub-feed-columns-3 Inv-loop μ-loop
-sub-feed-columns-3 c = omega (arith, c .before .before .before .before .before .before .before .before .before .before .before .before .before .before .loop .inv .inside, c .before .before .before .before .before .before .before .before .before .before .before .before .before .before .loop .inv .size)
+sub-feed-3 : tie.Need-sub-feed-3 Inv-loop μ-loop
+sub-feed-3 c = omega arith
 
-part-feed-columns-start-3 : tie.Need-part-feed-columns-start-3 Inv-loop μ-loop
-part-feed-columns-start-3 c = omega (arith, c .before .before .before .before .before .before .before .before .before .before .before .before .before .before .loop .inv .inside, c .before .before .before .before .before .before .before .before .before .before .before .before .before .before .loop .inv .size)
+part-feed-start-3 : tie.Need-part-feed-start-3 Inv-loop μ-loop
+part-feed-start-3 c = omega arith
 
-part-feed-columns-end-3 : tie.Need-part-feed-columns-end-3 Inv-loop μ-loop
-part-feed-columns-end-3 c = omega (arith, c .before .before .before .before .before .before .before .before .before .before .before .before .before .before .loop .inv .inside, c .before .before .before .before .before .before .before .before .before .before .before .before .before .before .loop .inv .size)
+part-feed-end-3 : tie.Need-part-feed-end-3 Inv-loop μ-loop
+part-feed-end-3 c = omega arith
 
-feed-columns-requires : tie.Need-feed-columns-requires Inv-loop μ-loop
-feed-columns-requires c κs = tt
+feed-requires : tie.Need-feed-requires Inv-loop μ-loop
+feed-requires c κs = tt
 
 sub-keep-2 : tie.Need-sub-keep-2 Inv-loop μ-loop
-sub-keep-2 c = omega (arith, c .before .before .before .before .before .before .before .before .before .before .before .before .before .before .before .before .before .least .ensures, c .before .before .before .before .before .before .before .before .before .before .before .before .before .before .before .before .before .before .before .before .before .before .before .before .before .before .before .before .before .before .before .before .before .pre .0, c .before .before .before .before .before .before .before .before .before .before .before .before .before .before .before .before .before .before .before .before .before .before .before .before .before .before .before .before .before .before .before .before .before .pre .1, c .before .before .before .before .before .before .before .before .before .before .before .before .before .before .before .before .before .before .before .before .before .before .before .before .before .before .before .before .before .before .before .before .before .pre .2, c .before .before .before .before .before .before .before .before .before .before .before .before .before .before .before .before .before .before .loop-test .taken, c .before .before .before .before .before .before .before .before .before .before .before .before .before .before .before .before .before .before .before .loop .inv .reach)
+sub-keep-2 c = omega arith
 
 part-keep-start-2 : tie.Need-part-keep-start-2 Inv-loop μ-loop
-part-keep-start-2 c = omega (arith, c .before .before .before .before .before .before .before .before .before .before .before .before .before .before .before .before .before .least .ensures, c .before .before .before .before .before .before .before .before .before .before .before .before .before .before .before .before .before .before .before .before .before .before .before .before .before .before .before .before .before .before .before .before .before .pre .0, c .before .before .before .before .before .before .before .before .before .before .before .before .before .before .before .before .before .before .before .before .before .before .before .before .before .before .before .before .before .before .before .before .before .pre .1, c .before .before .before .before .before .before .before .before .before .before .before .before .before .before .before .before .before .before .before .before .before .before .before .before .before .before .before .before .before .before .before .before .before .pre .2, c .before .before .before .before .before .before .before .before .before .before .before .before .before .before .before .before .before .before .loop-test .taken, c .before .before .before .before .before .before .before .before .before .before .before .before .before .before .before .before .before .before .before .loop .inv .reach)
+part-keep-start-2 c = omega arith
 
 part-keep-end-2 : tie.Need-part-keep-end-2 Inv-loop μ-loop
-part-keep-end-2 c = omega (arith, c .before .before .before .before .before .before .before .before .before .before .before .before .before .before .before .before .before .least .ensures, c .before .before .before .before .before .before .before .before .before .before .before .before .before .before .before .before .before .before .before .before .before .before .before .before .before .before .before .before .before .before .before .before .before .pre .0, c .before .before .before .before .before .before .before .before .before .before .before .before .before .before .before .before .before .before .before .before .before .before .before .before .before .before .before .before .before .before .before .before .before .pre .1, c .before .before .before .before .before .before .before .before .before .before .before .before .before .before .before .before .before .before .before .before .before .before .before .before .before .before .before .before .before .before .before .before .before .pre .2, c .before .before .before .before .before .before .before .before .before .before .before .before .before .before .before .before .before .before .loop-test .taken, c .before .before .before .before .before .before .before .before .before .before .before .before .before .before .before .before .before .before .before .loop .inv .reach)
+part-keep-end-2 c = omega (arith, c .before .before .before .before .before .before .before .before .before .before .before .before .least .ensures, c .before .before .before .before .before .before .before .before .before .before .before .before .before .before .before .before .before .before .before .before .pre .0)
 
 keep-requires-2 : tie.Need-keep-requires-2 Inv-loop μ-loop
 keep-requires-2 c κs = tt
 
 behind-requires : tie.Need-behind-requires Inv-loop μ-loop
-behind-requires c κs = omega (arith, c .before .before .before .before .before .before .before .before .before .before .before .before .before .before .before .before .before .before .before .before .before .loop .inv .inside, c .before .before .before .before .before .before .before .before .before .before .before .before .before .before .before .before .before .before .before .before .before .loop .inv .size)
+behind-requires c κs = omega (arith, c .before .before .before .before .before .before .before .before .before .before .before .before .before .before .before .before .loop .inv .inside, c .before .before .before .before .before .before .before .before .before .before .before .before .before .before .before .before .loop .inv .size)
 
 loop-less-2 : tie.Need-loop-less-2 Inv-loop μ-loop
-loop-less-2 c = omega (arith, c .before .before .before .before .before .before .before .before .before .before .before .before .before .before .before .before .before .before .before .before .least .ensures, c .before .before .before .before .before .before .before .before .before .before .before .before .before .before .before .before .before .before .before .before .before .before .before .before .before .before .before .before .before .before .before .before .before .before .before .before .pre .0, c .before .before .before .before .before .before .before .before .before .before .before .before .before .before .before .before .before .before .before .before .before .before .before .before .before .before .before .before .before .before .before .before .before .before .before .before .pre .1, c .before .before .before .before .before .before .before .before .before .before .before .before .before .before .before .before .before .before .before .before .before .before .before .before .before .before .before .before .before .before .before .before .before .before .before .before .pre .2, c .before .before .before .before .before .before .before .before .before .before .before .before .before .before .before .before .before .before .before .before .before .loop-test .taken, c .before .before .before .before .before .before .before .before .before .before .before .before .before .before .before .before .before .before .before .before .before .before .loop .inv .reach)
+loop-less-2 c = omega (arith, c .before .before .before .before .before .before .before .before .before .before .before .before .before .before .before .least .ensures, c .before .before .before .before .before .before .before .before .before .before .before .before .before .before .before .before .before .before .before .before .before .before .before .pre .1, c .before .before .before .before .before .before .before .before .before .before .before .before .before .before .before .before .loop-test .taken)
 
 loop-again-2 : tie.Need-loop-again-2 Inv-loop μ-loop
-loop-again-2 c = takings-fed (c .before .before .before .before .before .before .before .before .before .before .before .before .before .before .before .before .before .before .before .before .before .before .before .before .before .before .before .before .before .before .before .before .before .before .before .before .args .p) (record { flags = c .before .before .before .before .before .before .before .before .before .before .before .before .before .before .before .before .before .before .before .before .before .before .before .before .before .before .before .before .before .before .before .before .before .before .before .before .args .flags .now; values = c .before .before .before .before .before .before .before .before .before .before .before .before .before .before .before .before .before .before .before .before .before .before .before .before .before .before .before .before .before .before .before .before .before .before .before .before .args .values .now }) (c .before .before .before .before .before .before .before .before .before .before .before .before .before .before .before .before .before .before .before .before .before .before .before .before .before .before .before .before .before .before .before .before .before .before .before .before .args .piece) (c .before .before .before .before .before .before .before .before .before .before .before .before .before .before .before .before .before .before .before .before .before .before .before .before .before .before .before .before .before .before .before .before .before .before .before .before .args .out .now) (c .before .before .before .before .before .before .before .before .before .before .before .before .before .before .before .before .before .before .before .before .before .before .before .before .before .before .before .before .before .before .before .before .before .before .before .before .pre .0) (record { f1 = c .before .before .before .before .before .before .before .before .before .before .before .before .before .before .before .before .before .before .before .before .before .before .loop .f1; marks = c .before .before .before .before .before .before .before .before .before .before .before .before .before .before .before .before .before .before .before .before .before .before .loop .marks; row = c .before .before .before .before .before .before .before .before .before .before .before .before .before .before .before .before .before .before .before .before .before .before .loop .row; level = c .before .before .before .before .before .before .before .before .before .before .before .before .before .before .before .before .before .before .before .before .before .before .loop .level; on = c .before .before .before .before .before .before .before .before .before .before .before .before .before .before .before .before .before .before .before .before .before .before .loop .on }) (c .before .before .before .before .before .before .before .before .before .before .before .before .before .before .before .before .before .before .before .before .before .before .loop .run) (c .before .before .before .before .before .before .before .before .before .before .before .before .before .before .before .before .before .before .before .before .before .before .loop .recent) (c .before .before .before .before .before .before .before .before .before .before .before .before .before .before .before .before .before .before .before .before .before .before .loop .at) (c .before .before .before .before .before .before .before .before .before .before .before .before .before .before .before .before .before .before .before .before .before .before .loop .i) _ (c .before .before .before .before .before .before .before .before .before .before .before .before .before .before .before .before .before .before .before .before .before .before .loop .out) (c .before .before .before .before .before .before .before .before .before .before .before .before .before .before .before .before .before .before .before .before .before .before .loop .inv) (c .before .before .before .before .before .before .before .before .before .before .before .before .before .before .before .before .before .before .before .before .before .loop-test .taken) (ap (λ (n : ℕ). c .before .before .before .before .before .before .before .before .before .before .before .before .before .before .before .before .before .before .before .before .before .before .loop .i + n) (c .before .before .before .before .before .before .before .before .before .before .before .before .before .before .before .before .before .before .before .before .least .ensures)) (all-bytes (c .before .before .before .before .before .before .before .before .before .before .before .before .before .before .before .before .before .before .before .before .before .before .before .before .before .before .before .before .before .before .before .before .before .before .before .before .args .values .now) (λ k. omega (arith, c .before .before .before .before .before .before .before .before .before .before .before .before .before .before .before .before .before .before .before .before .before .before .before .before .before .before .before .before .before .before .before .before .before .before .shared-slice-known2 .given k))) _ (c .before .keep2 .ensures) _ (c .before .before .before .before .before .before .feed-columns .result) _ _ (c .before .before .before .before .before .before .feed-columns .ensures) (omega (arith, c .behind .ensures, c .before .before .before .before .before .out .given)) (omega (arith, c .before .before .before .before .before .out .given))
+loop-again-2 c =
+    let out = c .before .before .before .before .before .out in
+    let feed = c .before .before .before .before .before .before .feed in
+    let l = c .before .before .before .before .before .before .before .before .before .before .before .before .before .before .before .before .before .loop in
+    let a = c .before .before .before .before .before .before .before .before .before .before .before .before .before .before .before .before .before .before .before .before .before .before .before .args in
+    takings-fed (a .p) (record { flags = a .flags .now; values = a .values .now }) (a .piece) (a .out .now) (c .before .before .before .before .before .before .before .before .before .before .before .before .before .before .before .before .before .before .before .before .before .before .before .pre .0) (l .y) (l .recent) (l .at) (l .i) _ (l .out) (l .inv) (c .before .before .before .before .before .before .before .before .before .before .before .before .before .before .before .before .loop-test .taken) (ap (λ (n : ℕ). l .i + n) (c .before .before .before .before .before .before .before .before .before .before .before .before .before .before .before .least .ensures)) (all-bytes (a .values .now) (λ k. omega (arith, c .before .before .before .before .before .before .before .before .before .before .before .before .before .before .before .before .before .before .before .before .before .shared-slice-known2 .given k))) _ (c .before .keep2 .ensures) (feed .result) _ _ (feed .ensures) (omega (arith, c .behind .ensures, out .given)) (omega (arith, out .given))
 
 cast-arrived : tie.Need-cast-arrived Inv-loop μ-loop
-cast-arrived c = omega (arith, c .before .before .before .before .before .before .before .before .before .before .before .before .before .before .before .before .before .before .before .pre .2)
+cast-arrived c = omega arith
 
 arrived-requires : tie.Need-arrived-requires Inv-loop μ-loop
 arrived-requires c κs = tt
 
 same-length : tie.Need-same-length Inv-loop μ-loop
-same-length c = c .before .before .before .before .before .before .loop .inv .size
+same-length c = c .before .before .loop .inv .size
 
 returns : tie.Need-returns Inv-loop μ-loop
-returns c = takings-end (c .before .before .before .before .before .before .before .before .before .before .before .before .before .before .before .before .before .before .before .before .args .p) (record { flags = c .before .before .before .before .before .before .before .before .before .before .before .before .before .before .before .before .before .before .before .before .args .flags .now; values = c .before .before .before .before .before .before .before .before .before .before .before .before .before .before .before .before .before .before .before .before .args .values .now }) (c .before .before .before .before .before .before .before .before .before .before .before .before .before .before .before .before .before .before .before .before .args .piece) (c .before .before .before .before .before .before .before .before .before .before .before .before .before .before .before .before .before .before .before .before .args .out .now) (c .before .before .before .before .before .before .before .before .before .before .before .before .before .before .before .before .before .before .before .before .pre .0) (record { f1 = c .before .before .before .before .before .before .loop .f1; marks = c .before .before .before .before .before .before .loop .marks; row = c .before .before .before .before .before .before .loop .row; level = c .before .before .before .before .before .before .loop .level; on = c .before .before .before .before .before .before .loop .on }) (c .before .before .before .before .before .before .loop .run) (c .before .before .before .before .before .before .loop .recent) (c .before .before .before .before .before .before .loop .at) (c .before .before .before .before .before .before .loop .i) _ (c .before .before .before .before .before .before .loop .out) _ (omega arith) refl (c .arrived .ensures) (c .before .before .before .before .before .before .loop .inv)
+returns c =
+    let l = c .before .before .loop in
+    let a = c .before .before .before .before .before .before .before .before .args in
+    takings-end (a .p) (record { flags = a .flags .now; values = a .values .now }) (a .piece) (a .out .now) (c .before .before .before .before .before .before .before .before .pre .0) (l .y) (l .recent) (l .at) (l .i) _ (l .out) _ (omega arith) refl (c .arrived .ensures) (l .inv)
 
 pub take-all-spec : {M : Type 1} → statement M
 take-all-spec =
@@ -133,11 +151,12 @@ take-all-spec =
     (tie.spec
     Inv-loop
     μ-loop
-    load-requires
+    progress-of-requires
     loop-holds
     sub-least
     least-requires
     add-end
+    first-place-requires
     cast-is-quiet
     sub-is-quiet
     part-is-quiet-start
@@ -149,17 +168,17 @@ take-all-spec =
     keep-requires
     loop-less
     loop-again
-    cast-feed-columns
-    sub-feed-columns
-    part-feed-columns-start
-    part-feed-columns-end
-    sub-feed-columns-2
-    part-feed-columns-start-2
-    part-feed-columns-end-2
-    sub-feed-columns-3
-    part-feed-columns-start-3
-    part-feed-columns-end-3
-    feed-columns-requires
+    cast-feed
+    sub-feed
+    part-feed-start
+    part-feed-end
+    sub-feed-2
+    part-feed-start-2
+    part-feed-end-2
+    sub-feed-3
+    part-feed-start-3
+    part-feed-end-3
+    feed-requires
     sub-keep-2
     part-keep-start-2
     part-keep-end-2

@@ -24,7 +24,9 @@ same-length-2 : tie.Need-same-length-2
 same-length-2 c = search needs
 
 returns : tie.Need-returns
-returns c = whole-refused (c .before .before .before .before .before .before .before .before .args .mode) (c .before .before .before .before .before .before .before .before .args .azimuth) (record { flags = c .before .before .before .before .before .before .before .before .args .flags .now; values = c .before .before .before .before .before .before .before .before .args .values .now }) (c .before .before .before .before .before .before .before .before .args .piece) (c .before .before .before .before .before .before .before .before .args .out .now) (c .before .before .before .before .before .before .before .before .args .totals .now) _ (turned-down _ _ (c .before .whole-refusal .ensures) (c .if1 .taken)) (c .if1 .taken) (omega arith)
+returns c =
+    let a = c .before .before .before .before .before .before .before .before .args in
+    whole-refused (a .mode) (a .azimuth) (record { flags = a .flags .now; values = a .values .now }) (a .piece) (a .out .now) (a .totals .now) _ (turned-down _ _ (c .before .whole-refusal .ensures) (c .if1 .taken)) (c .if1 .taken) (omega arith)
 
 swept-requires : tie.Need-swept-requires
 swept-requires c κs = let-through _ _ (c .before .before .before .whole-refusal .ensures) (c .before .before .if1 .left)

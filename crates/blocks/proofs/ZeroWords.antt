@@ -1,14 +1,10 @@
--- A block without flags, after ticks without flags, edges and M, changes nothing while no reply is due.
+-- Words without a bit: they stay so while ticks without flags come, and no edge stands in their span.
 use Prim.Native.Nat.{ℕ, _+_, _-_, _≤_, _<_}
 use native.Mathlib.Omega.{arith}
-use mathlib.Core.Path.{_≡_, refl, sym, ap, _∙_, subst}
+use mathlib.Core.Path.{_≡_, refl, sym, _∙_, subst}
 use mathlib.Core.Bool.{Bool, true, false}
-use mathlib.Core.List.{List, [], _∷_}
 use lib.Dec.{eqb, leb}
-use lib.ListN.{length, getD}
 use borrow.Author.Tests.{eqb-true, leb-true, leb-false}
-use Rattle.rules.specs.declared.Place.{Place}
-use Rattle.rules.specs.declared.Places.{Places}
 use Rattle.rules.proofs.Truth.{and-left, and-right}
 use Rattle.packing.specs.declared.Planes.{Planes}
 use Rattle.plane.specs.Words.{Holds, Slid}
@@ -20,19 +16,16 @@ use Rattle.edges.proofs.detection.LowTicks.{skipped}
 use Rattle.front.specs.declared.words.Front.{Front}
 use Rattle.front.specs.declared.span.Span.{Span}
 use Rattle.front.specs.Post.{AdvancePost, SpanPost, TopPost, blank}
+use Rattle.blocks.specs.Steps.{flagless}
 use Rattle.front.proofs.Advancing.{advance-law}
 use Rattle.front.proofs.Spans.{span-law}
-use Rattle.blocks.specs.declared.Progress.{Progress}
-use Rattle.blocks.specs.Steps.{flagless, noneDue, BlockPost}
-use Rattle.blocks.proofs.Working.{Works, end-none, end-works}
-use Rattle.blocks.proofs.BlockLaws.{block-law}
 
 -- ---- zero words
 
-zeroFront : Front
+unfoldable pub zeroFront : Front
 zeroFront = record { a = 0; a1 = 0; p = 0; p1 = 0; n = 0; n1 = 0; l = 0; l1 = 0; k = 0; k1 = 0; h = 0; h1 = 0; e = 0; e1 = 0; e2 = 0; e3 = 0; m = 0; m1 = 0; m2 = 0; m3 = 0 }
 
-blank-zero : (f : Front) → blank f ≡ true → f ≡ zeroFront
+pub blank-zero : (f : Front) → blank f ≡ true → f ≡ zeroFront
 unfolding zeroFront
 blank-zero f t-a =
     let e-a = eqb-true (f .a) 0 (and-left (eqb (f .a) 0) _ t-a) in
@@ -76,10 +69,10 @@ blank-zero f t-a =
     let e-m3 = eqb-true (f .m3) 0 t-m3 in
     λ i. record { a = e-a i; a1 = e-a1 i; p = e-p i; p1 = e-p1 i; n = e-n i; n1 = e-n1 i; l = e-l i; l1 = e-l1 i; k = e-k i; k1 = e-k1 i; h = e-h i; h1 = e-h1 i; e = e-e i; e1 = e-e1 i; e2 = e-e2 i; e3 = e-e3 i; m = e-m i; m1 = e-m1 i; m2 = e-m2 i; m3 = e-m3 i }
 
-zeroPlanes : Planes
+unfoldable pub zeroPlanes : Planes
 zeroPlanes = record { a = 0; p = 0; n = 0; m = 0 }
 
-flagless-zero : (x : Planes) → flagless x ≡ true → x ≡ zeroPlanes
+pub flagless-zero : (x : Planes) → flagless x ≡ true → x ≡ zeroPlanes
 unfolding zeroPlanes
 flagless-zero x t-a =
     let e-a = eqb-true (x .a) 0 (and-left (eqb (x .a) 0) _ t-a) in
@@ -113,7 +106,7 @@ slid-zero r h = record { holds = λ F b p q. both-none F b r r (omega arith) h p
 detected-zero : Detected (record { a = 0; p = 0; n = 0; lead = 0; calm = 0; chain = 0 }) 0 0 0 (record { lead = 0; calm = 0; chain = 0; edge = 0 })
 detected-zero = record { holds = λ F g q ha hp hn. skipped (record { a = 0; p = 0; n = 0; lead = 0; calm = 0; chain = 0 }) 0 refl F g q ha }
 
-advance-zero : (r : ℕ) → r ≤ 64 → AdvancePost zeroFront zeroPlanes r zeroFront
+pub advance-zero : (r : ℕ) → r ≤ 64 → AdvancePost zeroFront zeroPlanes r zeroFront
 unfolding zeroFront zeroPlanes
 advance-zero r h = advance-law zeroFront zeroFront zeroPlanes r h (record { a = slid-zero r h; a1 = slid-zero r h; p = slid-zero r h; p1 = slid-zero r h; n = slid-zero r h; n1 = slid-zero r h; l1 = slid-zero r h; k1 = slid-zero r h; h1 = slid-zero r h; e1 = slid-zero r h; e2 = slid-zero r h; e3 = slid-zero r h; m = slid-zero r h; m1 = slid-zero r h; m2 = slid-zero r h; m3 = slid-zero r h; found = detected-zero })
 
@@ -134,10 +127,10 @@ later-zero d l h E b p q =
     let y : b + 192 ≡ b + 128 + 64 = omega arith in
     ahead E (b + 23) d (subst (λ (n : ℕ). Holds E n 0) z (two-words E (b + 128) p (subst (λ (n : ℕ). Holds E n 0) y q) (d - 105) (omega arith)))
 
-zeroSpan : Span
+unfoldable pub zeroSpan : Span
 zeroSpan = record { due = 0; at168 = 0; at167 = 0; at169 = 0; main = 0; main168 = 0; main167 = 0; main169 = 0 }
 
-span-zero : SpanPost zeroFront zeroSpan
+pub span-zero : SpanPost zeroFront zeroSpan
 unfolding zeroFront zeroSpan
 span-zero =
     span-law zeroFront zeroSpan
@@ -152,28 +145,5 @@ span-zero =
       main169 = slid-zero 56 (omega arith);
     })
 
--- ---- the machine has nothing to do
-
-top-zero : (r : ℕ) → TopPost 0 r 0
+pub top-zero : (r : ℕ) → TopPost 0 r 0
 top-zero r = record { below = omega arith; clear = λ i h. zero-bit i; same = λ i h l. refl }
-
--- the four places, as a list
-listed : Places → List Place
-listed f = f .p0 ∷ (f .p1 ∷ (f .p2 ∷ (f .p3 ∷ [])))
-
--- ---- the block
-
-pub stays-law : (o : Progress) (p : Planes) (r t : ℕ) (recent : List ℕ) (base : ℕ) (values b : List ℕ) → r ≤ 64 → flagless p ≡ true → blank (o .front) ≡ true
-    → noneDue (o .machine .places .p0) t ≡ true → BlockPost o p r t recent base values b o b
-unfolding zeroSpan listed
-stays-law o p r t recent base values b h planes words due =
-    let f = blank-zero (o .front) words in
-    let e = flagless-zero p planes in
-    let ps = listed (o .machine .places) in
-    let c = o .machine .counts in
-    let w : Works (o .machine) zeroSpan r t recent base values (o .at) b (o .machine) (o .at) b =
-    end-works (o .machine) zeroSpan r t recent base values (o .at) b b ps c (o .at) (end-none (o .machine) zeroSpan r t recent base values (o .at) b ps c 0 refl h (top-zero r) refl) due in
-    block-law o p r t recent base values b (o .front) zeroSpan (o .machine) (o .at) b
-    (subst (λ (y : Planes). AdvancePost (o .front) y r (o .front)) (sym e) (subst (λ (g : Front). AdvancePost g zeroPlanes r g) (sym f) (advance-zero r h)))
-    (subst (λ (g : Front). SpanPost g zeroSpan) (sym f) span-zero)
-    w

@@ -1,11 +1,11 @@
--- `is_bare` tells that all bytes are 0. The invariant: those before i are.
+-- `has_no_flag` tells whether all bytes are 0. The invariant: those before i are.
 use Prim.Native.Nat.{_-_}
 use native.Mathlib.Omega.{arith}
 use lib.ListN.{length}
-use borrow.Author.Tests.{not-false}
-use Rattle.packing.proofs.flags.Bareness.{Clear, clear-first, clear-block, clear-byte, clear-last, not-clear}
-use Rattle.packing.proofs.flags.is_bare.Statement.{statement}
-use Rattle.packing.proofs.flags.is_bare.Tie as tie
+use borrow.Author.Tests.{not-false, not-true}
+use Rattle.packing.proofs.flags.Bareness.{Clear, clear-first, clear-block, clear-byte, clear-last, byte-flagged, block-flagged}
+use Rattle.packing.proofs.flags.has_no_flag.Statement.{statement}
+use Rattle.packing.proofs.flags.has_no_flag.Tie as tie
 
 abbrev Inv-loop : tie.InvT-loop
 Inv-loop flags n i₀ i = Clear flags i
@@ -29,7 +29,7 @@ bare-block-requires : tie.Need-bare-block-requires Inv-loop μ-loop Inv-loop2 μ
 bare-block-requires c κs = omega arith
 
 returns : tie.Need-returns Inv-loop μ-loop Inv-loop2 μ-loop2
-returns c = not-clear (c .before .before .before .before .before .args .flags .now)
+returns c = block-flagged (c .before .before .before .before .before .args .flags .now) (c .before .before .before .loop .i) (c .before .bare-block .ensures) (not-true _ (c .if1 .taken))
 
 add-i : tie.Need-add-i Inv-loop μ-loop Inv-loop2 μ-loop2
 add-i c = omega arith
@@ -47,7 +47,7 @@ shared-slice-read-if2 : tie.Need-shared-slice-read-if2 Inv-loop μ-loop Inv-loop
 shared-slice-read-if2 c = omega (arith, c .before .loop2-test .taken)
 
 returns-2 : tie.Need-returns-2 Inv-loop μ-loop Inv-loop2 μ-loop2
-returns-2 c = not-clear (c .before .before .before .before .before .before .before .args .flags .now)
+returns-2 c = byte-flagged (c .before .before .before .before .before .before .before .args .flags .now) (c .before .before .before .loop2 .i) (c .if2 .taken)
 
 add-i-2 : tie.Need-add-i-2 Inv-loop μ-loop Inv-loop2 μ-loop2
 add-i-2 c = omega arith
@@ -61,8 +61,8 @@ loop2-again c = clear-byte (c .before .before .before .before .before .before .b
 returns-3 : tie.Need-returns-3 Inv-loop μ-loop Inv-loop2 μ-loop2
 returns-3 c = clear-last (c .before .before .before .before .before .args .flags .now) (c .before .loop2 .i) (omega (arith, c .loop2-test .left)) (c .before .loop2 .inv)
 
-pub is-bare-spec : {M : Type 1} → statement M
-is-bare-spec =
+pub has-no-flag-spec : {M : Type 1} → statement M
+has-no-flag-spec =
     tie.close
     (tie.spec
     Inv-loop

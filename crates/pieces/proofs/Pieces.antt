@@ -11,29 +11,29 @@ use Rattle.rules.specs.Settings.{standard}
 use Rattle.rules.specs.Lists.{All}
 use Rattle.rules.specs.Samples.{Trace, _⧺_, A, P, N, M, odd}
 use Rattle.rules.specs.Edges.{stands, edgeAt}
+use Rattle.rules.specs.Buffers.{over-at}
 use Rattle.rules.specs.Records.{records}
-use Rattle.rules.specs.Calls.{fresh, rest, handed, silence}
+use Rattle.rules.specs.Calls.{fresh, handed, silence}
 use Rattle.rules.proofs.ListLaws.{all-append}
 use Rattle.rules.proofs.Apart.{edge-end}
 use Rattle.rules.proofs.Joining.{append-same, fresh-join, handed-fresh}
 use Rattle.rules.proofs.HandingOut.{fresh-most, rest-most}
 use Rattle.rules.proofs.PastEnd.{zeros-alike, edge-silence, rest-silence}
-use Rattle.packing.specs.declared.Planes.{Planes}
+use Rattle.rules.proofs.Answers.{standard-allowed, join-nothing}
 use Rattle.plane.specs.Words.{Holds, HoldsPart}
+use Rattle.plane.proofs.BitLaws.{zero-bit, bit-above}
+use Rattle.packing.specs.declared.Planes.{Planes}
 use Rattle.packing.specs.Packing.{Packed, PackedPart}
 use Rattle.packing.specs.Flags.{BareBlock}
 use Rattle.packing.proofs.FlagBits.{A-bit, P-bit, N-bit, M-bit}
-use Rattle.plane.proofs.BitLaws.{zero-bit, bit-above}
-use Rattle.rules.specs.Buffers.{over-at}
 use Rattle.machine.specs.Places.{machineOf}
-use Rattle.blocks.specs.declared.Progress.{Progress}
 use Rattle.front.specs.Words.{frontOf}
 use Rattle.front.specs.Post.{Low, Reads, valueOf}
-use Rattle.blocks.specs.Steps.{stateAt, Bounded, Fed, BlockPost}
-use Rattle.pieces.specs.Feeding.{upTo, Enters, Begins, BlocksPost, FeedPost, Ends, DrainPost}
-use Rattle.rules.proofs.Answers.{standard-allowed, join-nothing}
 use Rattle.front.proofs.Spans.{value-law}
+use Rattle.blocks.specs.declared.Progress.{Progress}
+use Rattle.blocks.specs.Steps.{stateAt, Bounded, Fed, Next, BlockPost}
 use Rattle.blocks.proofs.Working.{over-nil}
+use Rattle.pieces.specs.Feeding.{upTo, Enters, Begins, BlocksPost, FeedPost, Ends, DrainPost}
 
 abbrev nothing : Trace
 nothing = record { flags = []; values = [] }
@@ -44,7 +44,7 @@ fresh-nothing T a =
     append-same (handed standard T) (fresh standard T nothing) []
     (sym (handed-fresh standard standard-allowed T nothing a) ∙ ap (handed standard) (join-nothing T) ∙ sym (append-nil (handed standard T)))
 
-fed-nothing : (T : Trace) (o : Progress) (b : List ℕ) → length (T .flags) ≡ length (T .values) → o .front ≡ frontOf (T .flags) → o .machine ≡ machineOf (stateAt T (length (T .flags) - 178))
+pub fed-nothing : (T : Trace) (o : Progress) (b : List ℕ) → length (T .flags) ≡ length (T .values) → o .front ≡ frontOf (T .flags) → o .machine ≡ machineOf (stateAt T (length (T .flags) - 178))
     → o .at ≡ 0 → Fed T nothing b o b
 fed-nothing T o b a f m p =
     let e = fresh-nothing T a in
@@ -89,10 +89,10 @@ packed-bare flags o r e b h t =
     none F f = record { below = omega arith; at = λ i l. zero-bit i ∙ sym (f i l); rest = λ i l. zero-bit i }
 
 -- the next r
-abbrev block : List ℕ → List ℕ → ℕ → ℕ → Trace
+abbrev pub block : List ℕ → List ℕ → ℕ → ℕ → Trace
 block flags values n r = record { flags = take r (drop n flags); values = take r (drop n values) }
 
-up-to-more : (flags values : List ℕ) (n r : ℕ) → upTo flags values n ⧺ block flags values n r ≡ upTo flags values (n + r)
+pub up-to-more : (flags values : List ℕ) (n r : ℕ) → upTo flags values n ⧺ block flags values n r ≡ upTo flags values (n + r)
 up-to-more flags values n r =
     let f = sym (take-add n r flags) in
     let v = sym (take-add n r values) in
@@ -116,7 +116,7 @@ unfolding M
 flag-M F G j k e = ap (λ (x : ℕ). odd (x / 8)) e
 
 -- the planes of the next r ticks
-low-block : (flags values : List ℕ) (n r : ℕ) (x : Planes) → n + r ≤ length flags → PackedPart flags n r x → Low (block flags values n r .flags) x
+pub low-block : (flags values : List ℕ) (n r : ℕ) (x : Planes) → n + r ≤ length flags → PackedPart flags n r x → Low (block flags values n r .flags) x
 low-block flags values n r x h p =
     record {
       a = λ m l. p .a .at m (short m l) ∙ flag-A flags G (n + m) m (at m (short m l));
@@ -181,6 +181,38 @@ module _ (T : Trace) (o : Progress) (recent : List ℕ) (base : ℕ) (flags valu
 
 -- ---- the loop over a piece
 
+-- a block within the piece has its r ticks
+pub block-ticks : (flags values : List ℕ) (i r : ℕ) → i + r ≤ length flags → length (block flags values i r .flags) ≡ r
+block-ticks flags values i r h = length-take-le r (drop i flags) (omega (arith, length-drop i flags))
+
+-- the first i ticks are all of a piece that has no more
+pub all-through : (flags values : List ℕ) (i : ℕ) → length flags ≡ length values → length flags ≤ i → upTo flags values i ≡ record { flags = flags; values = values }
+all-through flags values i e h =
+    let a = take-all i flags h in
+    let v = take-all i values (omega (arith, e)) in
+    λ j. record { flags = a j; values = v j }
+
+-- the block that comes next
+pub next-block : (T : Trace) (o : Progress) (recent : List ℕ) (base : ℕ) (flags values b₀ b : List ℕ) (i r t : ℕ) → Enters T o recent base flags values b₀ → length b ≡ length b₀
+    → i + r ≤ length flags → t ≡ base + (i + r) → Next T (upTo flags values i) (block flags values i r) t recent base values b₀ b
+next-block T o recent base flags values b₀ b i r t g same h e =
+    let n = i + r in
+    let lf = length-take-le i flags (omega arith) in
+    let lv = length-take-le i values (omega (arith, g .alike-piece)) in
+    let lq = block-ticks flags values i r h in
+    let m = up-to-more flags values i r in
+    record {
+      alike = g .alike;
+      alike-piece = lf ∙ sym lv;
+      ticks = omega (arith, g .ticks, lf, lq, e);
+      bounded = subst (λ (R : Trace). Bounded (T ⧺ R)) (sym m) (g .bounded n h);
+      reads =
+          subst (λ (R : Trace). Reads (T ⧺ R) t recent base values) (sym m)
+          (subst (λ (c : ℕ). Reads (T ⧺ upTo flags values n) c recent base values) (sym e) (g .reads n h));
+      room = subst (λ (R : Trace). 18 * length (fresh standard T R) ≤ length b₀) (sym m) (g .room n h);
+      same = same;
+    }
+
 module _ (o : Progress) (recent : List ℕ) (base : ℕ) (flags values b₀ : List ℕ) where
   -- i ticks of the piece are through
   pub record Feeding (b : List ℕ) (y : Progress) (i : ℕ) : Type 0 where
@@ -189,12 +221,7 @@ module _ (o : Progress) (recent : List ℕ) (base : ℕ) (flags values b₀ : Li
     pub state : (T : Trace) → Enters T o recent base flags values b₀ → Fed T (upTo flags values i) b₀ y b
 
   pub feed-start : Feeding b₀ o 0
-  feed-start =
-      record {
-        same = refl;
-        most = omega arith;
-        state = λ T g. fed-nothing T o b₀ (g .alike) (g .front) (g .machine) (g .place);
-      }
+  feed-start = record { same = refl; most = omega arith; state = λ T g. fed-nothing T o b₀ (g .alike) (g .front) (g .machine) (g .place) }
 
   pub feed-next : (b : List ℕ) (y : Progress) (i r t : ℕ) (p : Planes) (z : Progress) (b′ : List ℕ) → i + r ≤ length flags → t ≡ base + (i + r) → PackedPart flags i r p
       → BlockPost y p r t recent base values b z b′ → Feeding b y i → Feeding b′ z (i + r)
@@ -202,49 +229,25 @@ module _ (o : Progress) (recent : List ℕ) (base : ℕ) (flags values b₀ : Li
       record {
         same = post .same ∙ f .same;
         most = h;
-        state =
-            λ T g.
-            let n = i + r in
-            let P = upTo flags values i in
-            let Q = block flags values i r in
-            let lf = length-take-le i flags (omega arith) in
-            let lv = length-take-le i values (omega (arith, g .alike-piece)) in
-            let lq : length (take r (drop i flags)) ≡ r = length-take-le r (drop i flags) (omega (arith, length-drop i flags)) in
-            let m = up-to-more flags values i r in
-            subst (λ (R : Trace). Fed T R b₀ z b′) m
-            (post .result T P Q b₀ (f .state T g) lq (low-block flags values i r p h k)
-            (record {
-              alike = g .alike;
-              alike-piece = lf ∙ sym lv;
-              ticks = omega (arith, g .ticks, lf, lq, e);
-              bounded = subst (λ (R : Trace). Bounded (T ⧺ R)) (sym m) (g .bounded n h);
-              reads =
-                  subst (λ (R : Trace). Reads (T ⧺ R) t recent base values) (sym m)
-                  (subst (λ (c : ℕ). Reads (T ⧺ upTo flags values n) c recent base values) (sym e) (g .reads n h));
-              room = subst (λ (R : Trace). 18 * length (fresh standard T R) ≤ length b₀) (sym m) (g .room n h);
-              same = f .same;
-            }));
+        state = λ T g.
+            subst (λ (R : Trace). Fed T R b₀ z b′) (up-to-more flags values i r)
+            (post .result T (upTo flags values i) (block flags values i r) b₀ (f .state T g) (block-ticks flags values i r h) (low-block flags values i r p h k)
+            (next-block T o recent base flags values b₀ b i r t g (f .same) h e));
       }
 
   pub feed-end : (b : List ℕ) (y : Progress) (i : ℕ) → length flags ≤ i → Feeding b y i → BlocksPost o recent base flags values b₀ y b
   feed-end b y i h f =
       record {
         same = f .same;
-        result =
-            λ T g.
-            let a = take-all i flags h in
-            let v = take-all i values (omega (arith, g .alike-piece)) in
-            let e : upTo flags values i ≡ record { flags = flags; values = values } = λ j. record { flags = a j; values = v j } in
-            subst (λ (R : Trace). Fed T R b₀ y b) e (f .state T g);
+        result = λ T g. subst (λ (R : Trace). Fed T R b₀ y b) (all-through flags values i (g .alike-piece) h) (f .state T g);
       }
 
--- a piece that would pass the limit
-pub feed-over : (o : Progress) (recent : List ℕ) (base : ℕ) (flags values b : List ℕ) → 32768 < base + length flags → FeedPost o recent base flags values b o b
-feed-over o recent base flags values b h = record { same = refl; past = λ k. (refl, refl); result = λ T g. absurd (omega (arith, g .limit)) }
+  -- a piece that would pass the limit, and one that does not
+  pub feed-past : 32768 < base + length flags → FeedPost o recent base flags values b₀ o b₀
+  feed-past h = record { same = refl; past = λ l. (refl, refl); result = λ T g. absurd (omega (arith, g .limit)) }
 
-pub feed-law : (o : Progress) (recent : List ℕ) (base : ℕ) (flags values b : List ℕ) (y : Progress) (b′ : List ℕ) → base + length flags ≤ 32768 → BlocksPost o recent base flags values b y b′
-    → FeedPost o recent base flags values b y b′
-feed-law o recent base flags values b y b′ k h = record { same = h .same; past = λ l. absurd (omega arith); result = λ T g. h .result T (enters-piece T o recent base flags values b g) }
+  pub feed-within : (y : Progress) (b : List ℕ) → base + length flags ≤ 32768 → BlocksPost o recent base flags values b₀ y b → FeedPost o recent base flags values b₀ y b
+  feed-within y b l h = record { same = h .same; past = λ m. absurd (omega arith); result = λ T g. h .result T (enters-piece T o recent base flags values b₀ g) }
 
 -- ---- the ticks past the end
 
