@@ -216,7 +216,6 @@ fn feed_blocks(
             } else {
                 todo = without_lowest(todo);
             }
-            from = i + 1;
             if marked(twice(on), i) {
                 let v = voices_of(places, on, i, e.value);
                 if marked(on.a, i) {
@@ -235,13 +234,14 @@ fn feed_blocks(
                     let q = places[3];
                     places[3] = heard(q, e, v.d, any3(v.a, v.b, v.c));
                 }
-                continue;
+            } else {
+                if marked(any_word(on), i) {
+                    let j = which(on, i);
+                    let q = places[j];
+                    places[j] = heard(q, e, speaks(true, q, e.value), false);
+                }
             }
-            if marked(any_word(on), i) {
-                let j = which(on, i);
-                let q = places[j];
-                places[j] = heard(q, e, speaks(true, q, e.value), false);
-            }
+            from = i + 1;
         }
         while !none_due(places[0], t) {
             at = hand_one(places[0], Tick(t - 179), out, at);

@@ -65,10 +65,9 @@ array-of-requires c κs = search needs
 loop-holds : tie.Need-loop-holds Inv-loop2 μ-loop2 Inv-loop3 μ-loop3 Inv-loop μ-loop
 loop-holds c =
     let array-of = c .before .array-of in
-    let args = c .before .before .before .before .before .before .before .args in (
-      ap (length {A = Place}) (array-of .ensures),
-      feed-start (record { front = args .o .front; machine = machineIn (array-of .result) (args .o .machine .counts); at = args .o .at }) (args .recent .now) (args .base) (args .flags .now) (args .values .now) (args .out .now),
-    )
+    let args = c .before .before .before .before .before .before .before .args in
+    (ap (length {A = Place}) (array-of .ensures),
+    feed-start (record { front = args .o .front; machine = machineIn (array-of .result) (args .o .machine .counts); at = args .o .at }) (args .recent .now) (args .base) (args .flags .now) (args .values .now) (args .out .now))
 
 sub-block-length : tie.Need-sub-block-length Inv-loop2 μ-loop2 Inv-loop3 μ-loop3 Inv-loop μ-loop
 sub-block-length c = search needs
@@ -114,13 +113,12 @@ loop-again c =
     let array-of = c .before .before .before .before .before .before .before .before .array-of in
     let args = c .before .before .before .before .before .before .before .before .before .before .before .before .before .before .args in
     let o : Progress = record { front = loop .front; machine = machineIn (loop .places) (loop .counts); at = loop .at } in
-    let s = all-three _ _ _ _ (stays .ensures) (if1 .taken) in (
-      loop .inv .0,
-      feed-next (record { front = args .o .front; machine = machineIn (array-of .result) (args .o .machine .counts); at = args .o .at }) (args .recent .now) (args .base) (args .flags .now) (args .values .now) (args .out .now)
-          (loop .out) o (loop .done) (block-length .result) _ (packed .result) o (loop .out) (omega (arith, block-length .ensures .1 .1 .0, test1 .taken)) refl (packed .ensures)
-          (stays-law o (packed .result) (block-length .result) _ (args .recent .now) (args .base) (args .values .now) (loop .out) (block-length .ensures .1 .0) (s .0) (s .1) (s .2))
-          (loop .inv .1),
-    )
+    let s = all-three _ _ _ _ (stays .ensures) (if1 .taken) in
+    (loop .inv .0,
+    feed-next (record { front = args .o .front; machine = machineIn (array-of .result) (args .o .machine .counts); at = args .o .at }) (args .recent .now) (args .base) (args .flags .now) (args .values .now) (args .out .now)
+    (loop .out) o (loop .done) (block-length .result) _ (packed .result) o (loop .out) (omega (arith, block-length .ensures .1 .1 .0, test1 .taken)) refl (packed .ensures)
+    (stays-law o (packed .result) (block-length .result) _ (args .recent .now) (args .base) (args .values .now) (loop .out) (block-length .ensures .1 .0) (s .0) (s .1) (s .2))
+    (loop .inv .1))
 
 cast-advance : tie.Need-cast-advance Inv-loop2 μ-loop2 Inv-loop3 μ-loop3 Inv-loop μ-loop
 cast-advance c = search needs
@@ -172,16 +170,15 @@ loop-again-2 c =
     let args = c .before .before .before .before .before .before .before .before .before .before .before .before .before .before .before .before .before .before .before .before .args in
     let o : Progress = record { front = loop .front; machine = machineIn (loop .places) (loop .counts); at = loop .at } in
     let m = machineIn (loop .places) (loop .counts) in
-    let s = both _ _ (if2 .taken) in (
-      loop .inv .0,
-      feed-next (record { front = args .o .front; machine = machineIn (array-of .result) (args .o .machine .counts); at = args .o .at }) (args .recent .now) (args .base) (args .flags .now) (args .values .now) (args .out .now)
-          (loop .out) o (loop .done) (block-length .result) _ (packed .result) (record { front = advance .result; machine = m; at = loop .at }) (loop .out) (omega (arith, block-length .ensures .1 .1 .0, test1 .taken)) refl (packed .ensures)
-          (block-law o (packed .result) (block-length .result) _ (args .recent .now) (args .base) (args .values .now) (loop .out) (advance .result) (span-of .result) m (loop .at) (loop .out) (advance .ensures) (span-of .ensures)
-          (end-works m (span-of .result) (block-length .result) _ (args .recent .now) (args .base) (args .values .now) (loop .at) (loop .out) (loop .out) (loop .places) (loop .counts) (loop .at)
-          (end-none m (span-of .result) (block-length .result) _ (args .recent .now) (args .base) (args .values .now) (loop .at) (loop .out) (loop .places) (loop .counts) (top .result) refl (block-length .ensures .1 .0) (top .ensures) (eqb-true _ 0 (s .0)))
-          (sym (none-due .ensures) ∙ s .1)))
-          (loop .inv .1),
-    )
+    let s = both _ _ (if2 .taken) in
+    (loop .inv .0,
+    feed-next (record { front = args .o .front; machine = machineIn (array-of .result) (args .o .machine .counts); at = args .o .at }) (args .recent .now) (args .base) (args .flags .now) (args .values .now) (args .out .now)
+    (loop .out) o (loop .done) (block-length .result) _ (packed .result) (record { front = advance .result; machine = m; at = loop .at }) (loop .out) (omega (arith, block-length .ensures .1 .1 .0, test1 .taken)) refl (packed .ensures)
+    (block-law o (packed .result) (block-length .result) _ (args .recent .now) (args .base) (args .values .now) (loop .out) (advance .result) (span-of .result) m (loop .at) (loop .out) (advance .ensures) (span-of .ensures)
+    (end-works m (span-of .result) (block-length .result) _ (args .recent .now) (args .base) (args .values .now) (loop .at) (loop .out) (loop .out) (loop .places) (loop .counts) (loop .at)
+    (end-none m (span-of .result) (block-length .result) _ (args .recent .now) (args .base) (args .values .now) (loop .at) (loop .out) (loop .places) (loop .counts) (top .result) refl (block-length .ensures .1 .0) (top .ensures) (eqb-true _ 0 (s .0)))
+    (sym (none-due .ensures) ∙ s .1)))
+    (loop .inv .1))
 
 covers-of-requires :
     tie.Need-covers-of-requires Inv-loop2 μ-loop2 Inv-loop3 μ-loop3 Inv-loop μ-loop
@@ -514,9 +511,6 @@ without-lowest-requires :
     tie.Need-without-lowest-requires Inv-loop2 μ-loop2 Inv-loop3 μ-loop3 Inv-loop μ-loop
 without-lowest-requires c κs = search needs
 
-add-from : tie.Need-add-from Inv-loop2 μ-loop2 Inv-loop3 μ-loop3 Inv-loop μ-loop
-add-from c = search needs
-
 twice-requires : tie.Need-twice-requires Inv-loop2 μ-loop2 Inv-loop3 μ-loop3 Inv-loop μ-loop
 twice-requires c κs = search needs
 
@@ -594,135 +588,6 @@ array-set-from-places-5 :
     tie.Need-array-set-from-places-5 Inv-loop2 μ-loop2 Inv-loop3 μ-loop3 Inv-loop μ-loop
 array-set-from-places-5 c = search needs
 
-loop2-less-3 : tie.Need-loop2-less-3 Inv-loop2 μ-loop2 Inv-loop3 μ-loop3 Inv-loop μ-loop
-loop2-less-3 c =
-    let heard4 = c .heard4 in
-    let if10 = c .before .before .before .before .before .if10 in
-    let if4 = c .before .before .before .before .before .before .before .before .before .before .before .before .before .before .before .if4 in
-    let tick-of = c .before .before .before .before .before .before .before .before .before .before .before .before .before .before .before .before .before .before .before .before .before .before .tick-of in
-    let lowest = c .before .before .before .before .before .before .before .before .before .before .before .before .before .before .before .before .before .before .before .before .before .before .before .lowest in
-    let loop2 = c .before .before .before .before .before .before .before .before .before .before .before .before .before .before .before .before .before .before .before .before .before .before .before .before .before .loop2 in
-    let span-of = c .before .before .before .before .before .before .before .before .before .before .before .before .before .before .before .before .before .before .before .before .before .before .before .before .before .before .before .before .before .before .before .before .before .span-of in
-    let block-length = c .before .before .before .before .before .before .before .before .before .before .before .before .before .before .before .before .before .before .before .before .before .before .before .before .before .before .before .before .before .before .before .before .before .before .before .before .before .before .before .block-length in
-    let loop = c .before .before .before .before .before .before .before .before .before .before .before .before .before .before .before .before .before .before .before .before .before .before .before .before .before .before .before .before .before .before .before .before .before .before .before .before .before .before .before .before .before .loop in
-    let args = c .before .before .before .before .before .before .before .before .before .before .before .before .before .before .before .before .before .before .before .before .before .before .before .before .before .before .before .before .before .before .before .before .before .before .before .before .before .before .before .before .before .before .before .before .before .before .before .before .before .args in
-    turn-taken (loop2 .from) (lowest .result) (loop2 .places) (set (if10 .places) 3 (heard4 .result)) (loop2 .risk) (if4 .risk) (first-from (machineIn (loop .places) (loop .counts)) (span-of .result) (block-length .result) _ (args .recent .now) (args .base) (args .values .now) (loop .at) (loop .out) (loop2 .out) (loop2 .places) (loop2 .on) (loop2 .risk) (loop2 .counts) (loop2 .at) (loop2 .todo) (loop2 .from) (loop2 .inv) (lowest .result) (tick-of .result) (lowest .ensures) (tick-of .ensures .1)) (lowest .ensures .below)
-
-loop2-again-3 : tie.Need-loop2-again-3 Inv-loop2 μ-loop2 Inv-loop3 μ-loop3 Inv-loop μ-loop
-loop2-again-3 c =
-    let heard4 = c .heard4 in
-    let any34 = c .before .any34 in
-    let if11 = c .before .before .before .if11 in
-    let marked6 = c .before .before .before .before .marked6 in
-    let if10 = c .before .before .before .before .before .if10 in
-    let marked5 = c .before .before .before .before .before .before .marked5 in
-    let if9 = c .before .before .before .before .before .before .before .if9 in
-    let marked4 = c .before .before .before .before .before .before .before .before .marked4 in
-    let if8 = c .before .before .before .before .before .before .before .before .before .if8 in
-    let marked3 = c .before .before .before .before .before .before .before .before .before .before .marked3 in
-    let voices-of = c .before .before .before .before .before .before .before .before .before .before .before .voices-of in
-    let if4 = c .before .before .before .before .before .before .before .before .before .before .before .before .before .before .before .if4 in
-    let framed = c .before .before .before .before .before .before .before .before .before .before .before .before .before .before .before .before .framed in
-    let pulse-at = c .before .before .before .before .before .before .before .before .before .before .before .before .before .before .before .before .before .pulse-at in
-    let marked = c .before .before .before .before .before .before .before .before .before .before .before .before .before .before .before .before .before .before .marked in
-    let if3 = c .before .before .before .before .before .before .before .before .before .before .before .before .before .before .before .before .before .before .before .if3 in
-    let is-over = c .before .before .before .before .before .before .before .before .before .before .before .before .before .before .before .before .before .before .before .before .is-over in
-    let tick-of = c .before .before .before .before .before .before .before .before .before .before .before .before .before .before .before .before .before .before .before .before .before .before .tick-of in
-    let lowest = c .before .before .before .before .before .before .before .before .before .before .before .before .before .before .before .before .before .before .before .before .before .before .before .lowest in
-    let loop2 = c .before .before .before .before .before .before .before .before .before .before .before .before .before .before .before .before .before .before .before .before .before .before .before .before .before .loop2 in
-    let top = c .before .before .before .before .before .before .before .before .before .before .before .before .before .before .before .before .before .before .before .before .before .before .before .before .before .before .before .before .before .before .before .before .top in
-    let span-of = c .before .before .before .before .before .before .before .before .before .before .before .before .before .before .before .before .before .before .before .before .before .before .before .before .before .before .before .before .before .before .before .before .before .span-of in
-    let block-length = c .before .before .before .before .before .before .before .before .before .before .before .before .before .before .before .before .before .before .before .before .before .before .before .before .before .before .before .before .before .before .before .before .before .before .before .before .before .before .before .block-length in
-    let loop = c .before .before .before .before .before .before .before .before .before .before .before .before .before .before .before .before .before .before .before .before .before .before .before .before .before .before .before .before .before .before .before .before .before .before .before .before .before .before .before .before .before .loop in
-    let args = c .before .before .before .before .before .before .before .before .before .before .before .before .before .before .before .before .before .before .before .before .before .before .before .before .before .before .before .before .before .before .before .before .before .before .before .before .before .before .before .before .before .before .before .before .before .before .before .before .before .args in
-    let size : length (loop2 .places) ≡ 4 = loop2 .inv .size in
-    let stood : Stood (span-of .result) (lowest .result) (tick-of .result) (args .recent .now) (args .base) (args .values .now) (framed .result) (framed .ensures) (block-length .result) (pulse-at .result) (loop2 .places) (loop2 .on) (loop2 .risk) (loop2 .counts) (loop2 .todo) (loop2 .from) (loop2 .inv .todos) (lowest .ensures) (if4 .places) (if4 .on) (if4 .risk) (if4 .counts) (if4 .todo) =
-    either (if4 .came)
-    (λ w. stood-framed (span-of .result) (lowest .result) (tick-of .result) (args .recent .now) (args .base) (args .values .now) (framed .result) (framed .ensures) (block-length .result) (pulse-at .result) (loop2 .places) (loop2 .on) (loop2 .risk) (loop2 .counts) (loop2 .todo) (loop2 .from) (loop2 .inv .todos) (lowest .ensures) (w .4 .result)
-    (second-as (span-of .result) (lowest .result) (tick-of .result) (args .recent .now) (args .base) (args .values .now) (framed .result) (framed .ensures) (w .0 .taken) (w .3 .result) (w .3 .ensures) (w .1 .result) (w .1 .ensures .0) (w .4 .result) (w .4 .ensures))
-    (if4 .places) (if4 .on) (if4 .risk) (if4 .counts) (if4 .todo) (top .result) (w .13 .result) (w .14 .result) (w .12 .places) (w .12 .on) (w .12 .risk) (w .8 .result)
-    (either (w .12 .came)
-    (λ v. framed-as (loop2 .places) (loop2 .on) (loop2 .risk) (loop2 .counts) (lowest .result) (pulse-at .result) (w .4 .result) _ (w .12 .places) (v .5 .result) (w .12 .on) (v .7 .result) (w .12 .risk) (w .8 .result)
-    (framed-opens (loop2 .places) (loop2 .on) (loop2 .risk) (loop2 .counts) (lowest .result) (pulse-at .result) (w .4 .result) size (lowest .ensures .below) (omega (arith, ap (λ (q : Pulse). q .tick .0) (w .4 .ensures), tick-of .ensures .0, w .1 .ensures .1)) (w .5 .result) (w .5 .ensures) (w .6 .result) (w .6 .ensures) (w .7 .result) (w .7 .ensures) (w .9 .result) (w .9 .ensures) (λ z. omega (arith, w .10 .left)) (w .8 .result) (w .8 .ensures) (w .11 .result) (w .11 .ensures) (v .0 .taken) (v .1 .result) (v .1 .ensures) (v .3 .result) (v .3 .ensures .0) (v .3 .ensures .1) (v .4 .result) (v .6 .result) (v .4 .ensures) (v .6 .ensures) (v .5 .result) (v .7 .result) (v .5 .ensures) (v .7 .ensures) _ refl) (v .8) (v .9) (v .10))
-    (λ v. framed-as (loop2 .places) (loop2 .on) (loop2 .risk) (loop2 .counts) (lowest .result) (pulse-at .result) (w .4 .result) (loop2 .places) (w .12 .places) (loop2 .on) (w .12 .on) (loop2 .risk) (w .12 .risk) (w .8 .result) (framed-shut (loop2 .places) (loop2 .on) (loop2 .risk) (loop2 .counts) (lowest .result) (pulse-at .result) (w .4 .result) size (lowest .ensures .below) (omega (arith, ap (λ (q : Pulse). q .tick .0) (w .4 .ensures), tick-of .ensures .0, w .1 .ensures .1)) (w .5 .result) (w .5 .ensures) (w .6 .result) (w .6 .ensures) (w .7 .result) (w .7 .ensures) (w .9 .result) (w .9 .ensures) (λ z. omega (arith, w .10 .left)) (w .8 .result) (w .8 .ensures) (w .11 .result) (w .11 .ensures) (v .0 .left)) (v .1) (v .2) (v .3)))
-    (top .ensures) (w .13 .ensures) (w .14 .ensures) (w .15) (w .16) (w .17) (w .18) (w .19))
-    (λ w. stood-plain (span-of .result) (lowest .result) (tick-of .result) (args .recent .now) (args .base) (args .values .now) (framed .result) (framed .ensures) (block-length .result) (pulse-at .result) (loop2 .places) (loop2 .on) (loop2 .risk) (loop2 .counts) (loop2 .todo) (loop2 .from) (loop2 .inv .todos) (lowest .ensures) (w .0 .left) (if4 .places) (if4 .on) (if4 .risk) (if4 .counts) (if4 .todo) (w .1 .result) (w .1 .ensures) (w .2) (w .3) (w .4) (w .5) (w .6)) in
-    let dealt : Dealt (if4 .places) (if4 .on) (lowest .result) (pulse-at .result) (set (if10 .places) 3 (heard4 .result)) = (deals-four (if4 .places) (if8 .places) (if9 .places) (if10 .places) _ (if4 .on) (lowest .result) (pulse-at .result) (stood .size ∙ size) (marked3 .result) (marked4 .result) (marked5 .result) (marked6 .result) (marked3 .ensures) (marked4 .ensures) (marked5 .ensures) (marked6 .ensures) (voices-of .result) (voices-of .ensures)
-    (either (if8 .came)
-    (λ w. turns-did (marked3 .result) 0 (pulse-at .result) (voices-of .result .a) (any3 (voices-of .result .b) (voices-of .result .c) (voices-of .result .d)) (w .2 .result) (if4 .places) (if8 .places) (w .3 .result) (w .0 .taken) (w .4) (w .3 .ensures) (w .2 .ensures))
-    (λ w. turns-not (marked3 .result) 0 (pulse-at .result) (voices-of .result .a) (any3 (voices-of .result .b) (voices-of .result .c) (voices-of .result .d)) (if4 .places) (if8 .places) (w .0 .left) (w .1)))
-    (either (if9 .came)
-    (λ w. turns-did (marked4 .result) 1 (pulse-at .result) (voices-of .result .b) (any3 (voices-of .result .a) (voices-of .result .c) (voices-of .result .d)) (w .2 .result) (if8 .places) (if9 .places) (w .3 .result) (w .0 .taken) (w .4) (w .3 .ensures) (w .2 .ensures))
-    (λ w. turns-not (marked4 .result) 1 (pulse-at .result) (voices-of .result .b) (any3 (voices-of .result .a) (voices-of .result .c) (voices-of .result .d)) (if8 .places) (if9 .places) (w .0 .left) (w .1)))
-    (either (if10 .came)
-    (λ w. turns-did (marked5 .result) 2 (pulse-at .result) (voices-of .result .c) (any3 (voices-of .result .a) (voices-of .result .b) (voices-of .result .d)) (w .2 .result) (if9 .places) (if10 .places) (w .3 .result) (w .0 .taken) (w .4) (w .3 .ensures) (w .2 .ensures))
-    (λ w. turns-not (marked5 .result) 2 (pulse-at .result) (voices-of .result .c) (any3 (voices-of .result .a) (voices-of .result .b) (voices-of .result .d)) (if9 .places) (if10 .places) (w .0 .left) (w .1)))
-    (turns-did (marked6 .result) 3 (pulse-at .result) (voices-of .result .d) (any3 (voices-of .result .a) (voices-of .result .b) (voices-of .result .c)) (any34 .result) (if10 .places) _ (heard4 .result) (if11 .taken) refl (heard4 .ensures) (any34 .ensures))) in
-    work-taken (machineIn (loop .places) (loop .counts)) (span-of .result) (block-length .result) _ (args .recent .now) (args .base) (args .values .now) (loop .at) (loop .out) (loop2 .out) (loop2 .places) (loop2 .on) (loop2 .risk) (loop2 .counts) (loop2 .at) (loop2 .todo) (loop2 .from) (loop2 .inv) (lowest .result) (tick-of .result) (lowest .ensures) (tick-of .ensures .1) (is-over .result) (is-over .ensures) (if3 .left) (pulse-at .result) (pulse-as (span-of .result .main) (lowest .result) (tick-of .result) (args .recent .now) (args .base) (args .values .now) (marked .result) (pulse-at .result) (marked .ensures) (pulse-at .ensures)) (bracketIn (span-of .result) (lowest .result) (tick-of .result) (args .recent .now) (args .base) (args .values .now)) refl _ (if4 .on) (if4 .risk) (if4 .counts) (stood .visits _ (dealt .deal)) (if4 .todo) (stood .todos) (dealt .size ∙ stood .size ∙ size)
-
-loop2-less-4 : tie.Need-loop2-less-4 Inv-loop2 μ-loop2 Inv-loop3 μ-loop3 Inv-loop μ-loop
-loop2-less-4 c =
-    let if10 = c .before .before .if10 in
-    let if4 = c .before .before .before .before .before .before .before .before .before .before .before .before .if4 in
-    let tick-of = c .before .before .before .before .before .before .before .before .before .before .before .before .before .before .before .before .before .before .before .tick-of in
-    let lowest = c .before .before .before .before .before .before .before .before .before .before .before .before .before .before .before .before .before .before .before .before .lowest in
-    let loop2 = c .before .before .before .before .before .before .before .before .before .before .before .before .before .before .before .before .before .before .before .before .before .before .loop2 in
-    let span-of = c .before .before .before .before .before .before .before .before .before .before .before .before .before .before .before .before .before .before .before .before .before .before .before .before .before .before .before .before .before .before .span-of in
-    let block-length = c .before .before .before .before .before .before .before .before .before .before .before .before .before .before .before .before .before .before .before .before .before .before .before .before .before .before .before .before .before .before .before .before .before .before .before .before .block-length in
-    let loop = c .before .before .before .before .before .before .before .before .before .before .before .before .before .before .before .before .before .before .before .before .before .before .before .before .before .before .before .before .before .before .before .before .before .before .before .before .before .before .loop in
-    let args = c .before .before .before .before .before .before .before .before .before .before .before .before .before .before .before .before .before .before .before .before .before .before .before .before .before .before .before .before .before .before .before .before .before .before .before .before .before .before .before .before .before .before .before .before .before .before .args in
-    turn-taken (loop2 .from) (lowest .result) (loop2 .places) (if10 .places) (loop2 .risk) (if4 .risk) (first-from (machineIn (loop .places) (loop .counts)) (span-of .result) (block-length .result) _ (args .recent .now) (args .base) (args .values .now) (loop .at) (loop .out) (loop2 .out) (loop2 .places) (loop2 .on) (loop2 .risk) (loop2 .counts) (loop2 .at) (loop2 .todo) (loop2 .from) (loop2 .inv) (lowest .result) (tick-of .result) (lowest .ensures) (tick-of .ensures .1)) (lowest .ensures .below)
-
-loop2-again-4 : tie.Need-loop2-again-4 Inv-loop2 μ-loop2 Inv-loop3 μ-loop3 Inv-loop μ-loop
-loop2-again-4 c =
-    let if11 = c .if11 in
-    let marked6 = c .before .marked6 in
-    let if10 = c .before .before .if10 in
-    let marked5 = c .before .before .before .marked5 in
-    let if9 = c .before .before .before .before .if9 in
-    let marked4 = c .before .before .before .before .before .marked4 in
-    let if8 = c .before .before .before .before .before .before .if8 in
-    let marked3 = c .before .before .before .before .before .before .before .marked3 in
-    let voices-of = c .before .before .before .before .before .before .before .before .voices-of in
-    let if4 = c .before .before .before .before .before .before .before .before .before .before .before .before .if4 in
-    let framed = c .before .before .before .before .before .before .before .before .before .before .before .before .before .framed in
-    let pulse-at = c .before .before .before .before .before .before .before .before .before .before .before .before .before .before .pulse-at in
-    let marked = c .before .before .before .before .before .before .before .before .before .before .before .before .before .before .before .marked in
-    let if3 = c .before .before .before .before .before .before .before .before .before .before .before .before .before .before .before .before .if3 in
-    let is-over = c .before .before .before .before .before .before .before .before .before .before .before .before .before .before .before .before .before .is-over in
-    let tick-of = c .before .before .before .before .before .before .before .before .before .before .before .before .before .before .before .before .before .before .before .tick-of in
-    let lowest = c .before .before .before .before .before .before .before .before .before .before .before .before .before .before .before .before .before .before .before .before .lowest in
-    let loop2 = c .before .before .before .before .before .before .before .before .before .before .before .before .before .before .before .before .before .before .before .before .before .before .loop2 in
-    let top = c .before .before .before .before .before .before .before .before .before .before .before .before .before .before .before .before .before .before .before .before .before .before .before .before .before .before .before .before .before .top in
-    let span-of = c .before .before .before .before .before .before .before .before .before .before .before .before .before .before .before .before .before .before .before .before .before .before .before .before .before .before .before .before .before .before .span-of in
-    let block-length = c .before .before .before .before .before .before .before .before .before .before .before .before .before .before .before .before .before .before .before .before .before .before .before .before .before .before .before .before .before .before .before .before .before .before .before .before .block-length in
-    let loop = c .before .before .before .before .before .before .before .before .before .before .before .before .before .before .before .before .before .before .before .before .before .before .before .before .before .before .before .before .before .before .before .before .before .before .before .before .before .before .loop in
-    let args = c .before .before .before .before .before .before .before .before .before .before .before .before .before .before .before .before .before .before .before .before .before .before .before .before .before .before .before .before .before .before .before .before .before .before .before .before .before .before .before .before .before .before .before .before .before .before .args in
-    let size : length (loop2 .places) ≡ 4 = loop2 .inv .size in
-    let stood : Stood (span-of .result) (lowest .result) (tick-of .result) (args .recent .now) (args .base) (args .values .now) (framed .result) (framed .ensures) (block-length .result) (pulse-at .result) (loop2 .places) (loop2 .on) (loop2 .risk) (loop2 .counts) (loop2 .todo) (loop2 .from) (loop2 .inv .todos) (lowest .ensures) (if4 .places) (if4 .on) (if4 .risk) (if4 .counts) (if4 .todo) =
-    either (if4 .came)
-    (λ w. stood-framed (span-of .result) (lowest .result) (tick-of .result) (args .recent .now) (args .base) (args .values .now) (framed .result) (framed .ensures) (block-length .result) (pulse-at .result) (loop2 .places) (loop2 .on) (loop2 .risk) (loop2 .counts) (loop2 .todo) (loop2 .from) (loop2 .inv .todos) (lowest .ensures) (w .4 .result)
-    (second-as (span-of .result) (lowest .result) (tick-of .result) (args .recent .now) (args .base) (args .values .now) (framed .result) (framed .ensures) (w .0 .taken) (w .3 .result) (w .3 .ensures) (w .1 .result) (w .1 .ensures .0) (w .4 .result) (w .4 .ensures))
-    (if4 .places) (if4 .on) (if4 .risk) (if4 .counts) (if4 .todo) (top .result) (w .13 .result) (w .14 .result) (w .12 .places) (w .12 .on) (w .12 .risk) (w .8 .result)
-    (either (w .12 .came)
-    (λ v. framed-as (loop2 .places) (loop2 .on) (loop2 .risk) (loop2 .counts) (lowest .result) (pulse-at .result) (w .4 .result) _ (w .12 .places) (v .5 .result) (w .12 .on) (v .7 .result) (w .12 .risk) (w .8 .result)
-    (framed-opens (loop2 .places) (loop2 .on) (loop2 .risk) (loop2 .counts) (lowest .result) (pulse-at .result) (w .4 .result) size (lowest .ensures .below) (omega (arith, ap (λ (q : Pulse). q .tick .0) (w .4 .ensures), tick-of .ensures .0, w .1 .ensures .1)) (w .5 .result) (w .5 .ensures) (w .6 .result) (w .6 .ensures) (w .7 .result) (w .7 .ensures) (w .9 .result) (w .9 .ensures) (λ z. omega (arith, w .10 .left)) (w .8 .result) (w .8 .ensures) (w .11 .result) (w .11 .ensures) (v .0 .taken) (v .1 .result) (v .1 .ensures) (v .3 .result) (v .3 .ensures .0) (v .3 .ensures .1) (v .4 .result) (v .6 .result) (v .4 .ensures) (v .6 .ensures) (v .5 .result) (v .7 .result) (v .5 .ensures) (v .7 .ensures) _ refl) (v .8) (v .9) (v .10))
-    (λ v. framed-as (loop2 .places) (loop2 .on) (loop2 .risk) (loop2 .counts) (lowest .result) (pulse-at .result) (w .4 .result) (loop2 .places) (w .12 .places) (loop2 .on) (w .12 .on) (loop2 .risk) (w .12 .risk) (w .8 .result) (framed-shut (loop2 .places) (loop2 .on) (loop2 .risk) (loop2 .counts) (lowest .result) (pulse-at .result) (w .4 .result) size (lowest .ensures .below) (omega (arith, ap (λ (q : Pulse). q .tick .0) (w .4 .ensures), tick-of .ensures .0, w .1 .ensures .1)) (w .5 .result) (w .5 .ensures) (w .6 .result) (w .6 .ensures) (w .7 .result) (w .7 .ensures) (w .9 .result) (w .9 .ensures) (λ z. omega (arith, w .10 .left)) (w .8 .result) (w .8 .ensures) (w .11 .result) (w .11 .ensures) (v .0 .left)) (v .1) (v .2) (v .3)))
-    (top .ensures) (w .13 .ensures) (w .14 .ensures) (w .15) (w .16) (w .17) (w .18) (w .19))
-    (λ w. stood-plain (span-of .result) (lowest .result) (tick-of .result) (args .recent .now) (args .base) (args .values .now) (framed .result) (framed .ensures) (block-length .result) (pulse-at .result) (loop2 .places) (loop2 .on) (loop2 .risk) (loop2 .counts) (loop2 .todo) (loop2 .from) (loop2 .inv .todos) (lowest .ensures) (w .0 .left) (if4 .places) (if4 .on) (if4 .risk) (if4 .counts) (if4 .todo) (w .1 .result) (w .1 .ensures) (w .2) (w .3) (w .4) (w .5) (w .6)) in
-    let dealt : Dealt (if4 .places) (if4 .on) (lowest .result) (pulse-at .result) (if10 .places) = (deals-four (if4 .places) (if8 .places) (if9 .places) (if10 .places) _ (if4 .on) (lowest .result) (pulse-at .result) (stood .size ∙ size) (marked3 .result) (marked4 .result) (marked5 .result) (marked6 .result) (marked3 .ensures) (marked4 .ensures) (marked5 .ensures) (marked6 .ensures) (voices-of .result) (voices-of .ensures)
-    (either (if8 .came)
-    (λ w. turns-did (marked3 .result) 0 (pulse-at .result) (voices-of .result .a) (any3 (voices-of .result .b) (voices-of .result .c) (voices-of .result .d)) (w .2 .result) (if4 .places) (if8 .places) (w .3 .result) (w .0 .taken) (w .4) (w .3 .ensures) (w .2 .ensures))
-    (λ w. turns-not (marked3 .result) 0 (pulse-at .result) (voices-of .result .a) (any3 (voices-of .result .b) (voices-of .result .c) (voices-of .result .d)) (if4 .places) (if8 .places) (w .0 .left) (w .1)))
-    (either (if9 .came)
-    (λ w. turns-did (marked4 .result) 1 (pulse-at .result) (voices-of .result .b) (any3 (voices-of .result .a) (voices-of .result .c) (voices-of .result .d)) (w .2 .result) (if8 .places) (if9 .places) (w .3 .result) (w .0 .taken) (w .4) (w .3 .ensures) (w .2 .ensures))
-    (λ w. turns-not (marked4 .result) 1 (pulse-at .result) (voices-of .result .b) (any3 (voices-of .result .a) (voices-of .result .c) (voices-of .result .d)) (if8 .places) (if9 .places) (w .0 .left) (w .1)))
-    (either (if10 .came)
-    (λ w. turns-did (marked5 .result) 2 (pulse-at .result) (voices-of .result .c) (any3 (voices-of .result .a) (voices-of .result .b) (voices-of .result .d)) (w .2 .result) (if9 .places) (if10 .places) (w .3 .result) (w .0 .taken) (w .4) (w .3 .ensures) (w .2 .ensures))
-    (λ w. turns-not (marked5 .result) 2 (pulse-at .result) (voices-of .result .c) (any3 (voices-of .result .a) (voices-of .result .b) (voices-of .result .d)) (if9 .places) (if10 .places) (w .0 .left) (w .1)))
-    (turns-not (marked6 .result) 3 (pulse-at .result) (voices-of .result .d) (any3 (voices-of .result .a) (voices-of .result .b) (voices-of .result .c)) (if10 .places) (if10 .places) (if11 .left) refl)) in
-    work-taken (machineIn (loop .places) (loop .counts)) (span-of .result) (block-length .result) _ (args .recent .now) (args .base) (args .values .now) (loop .at) (loop .out) (loop2 .out) (loop2 .places) (loop2 .on) (loop2 .risk) (loop2 .counts) (loop2 .at) (loop2 .todo) (loop2 .from) (loop2 .inv) (lowest .result) (tick-of .result) (lowest .ensures) (tick-of .ensures .1) (is-over .result) (is-over .ensures) (if3 .left) (pulse-at .result) (pulse-as (span-of .result .main) (lowest .result) (tick-of .result) (args .recent .now) (args .base) (args .values .now) (marked .result) (pulse-at .result) (marked .ensures) (pulse-at .ensures)) (bracketIn (span-of .result) (lowest .result) (tick-of .result) (args .recent .now) (args .base) (args .values .now)) refl _ (if4 .on) (if4 .risk) (if4 .counts) (stood .visits _ (dealt .deal)) (if4 .todo) (stood .todos) (dealt .size ∙ stood .size ∙ size)
-
 any-word-requires : tie.Need-any-word-requires Inv-loop2 μ-loop2 Inv-loop3 μ-loop3 Inv-loop μ-loop
 any-word-requires c κs = search needs
 
@@ -752,45 +617,41 @@ array-set-from-places-6 :
     tie.Need-array-set-from-places-6 Inv-loop2 μ-loop2 Inv-loop3 μ-loop3 Inv-loop μ-loop
 array-set-from-places-6 c = search needs
 
-loop2-less-5 : tie.Need-loop2-less-5 Inv-loop2 μ-loop2 Inv-loop3 μ-loop3 Inv-loop μ-loop
-loop2-less-5 c =
-    let heard5 = c .heard5 in
-    let which = c .before .before .before .which in
-    let if4 = c .before .before .before .before .before .before .before .before .before .before .if4 in
-    let tick-of = c .before .before .before .before .before .before .before .before .before .before .before .before .before .before .before .before .before .tick-of in
-    let lowest = c .before .before .before .before .before .before .before .before .before .before .before .before .before .before .before .before .before .before .lowest in
-    let loop2 = c .before .before .before .before .before .before .before .before .before .before .before .before .before .before .before .before .before .before .before .before .loop2 in
-    let span-of = c .before .before .before .before .before .before .before .before .before .before .before .before .before .before .before .before .before .before .before .before .before .before .before .before .before .before .before .before .span-of in
-    let block-length = c .before .before .before .before .before .before .before .before .before .before .before .before .before .before .before .before .before .before .before .before .before .before .before .before .before .before .before .before .before .before .before .before .before .before .block-length in
-    let loop = c .before .before .before .before .before .before .before .before .before .before .before .before .before .before .before .before .before .before .before .before .before .before .before .before .before .before .before .before .before .before .before .before .before .before .before .before .loop in
-    let args = c .before .before .before .before .before .before .before .before .before .before .before .before .before .before .before .before .before .before .before .before .before .before .before .before .before .before .before .before .before .before .before .before .before .before .before .before .before .before .before .before .before .before .before .before .args in
-    turn-taken (loop2 .from) (lowest .result) (loop2 .places) (set (if4 .places) (which .result) (heard5 .result)) (loop2 .risk) (if4 .risk) (first-from (machineIn (loop .places) (loop .counts)) (span-of .result) (block-length .result) _ (args .recent .now) (args .base) (args .values .now) (loop .at) (loop .out) (loop2 .out) (loop2 .places) (loop2 .on) (loop2 .risk) (loop2 .counts) (loop2 .at) (loop2 .todo) (loop2 .from) (loop2 .inv) (lowest .result) (tick-of .result) (lowest .ensures) (tick-of .ensures .1)) (lowest .ensures .below)
+add-from : tie.Need-add-from Inv-loop2 μ-loop2 Inv-loop3 μ-loop3 Inv-loop μ-loop
+add-from c = search needs
 
-loop2-again-5 : tie.Need-loop2-again-5 Inv-loop2 μ-loop2 Inv-loop3 μ-loop3 Inv-loop μ-loop
-loop2-again-5 c =
-    let heard5 = c .heard5 in
-    let speaks = c .before .speaks in
-    let which = c .before .before .before .which in
-    let if12 = c .before .before .before .before .if12 in
-    let marked7 = c .before .before .before .before .before .marked7 in
-    let any-word = c .before .before .before .before .before .before .any-word in
-    let if7 = c .before .before .before .before .before .before .before .if7 in
-    let marked2 = c .before .before .before .before .before .before .before .before .marked2 in
-    let twice = c .before .before .before .before .before .before .before .before .before .twice in
-    let if4 = c .before .before .before .before .before .before .before .before .before .before .if4 in
-    let framed = c .before .before .before .before .before .before .before .before .before .before .before .framed in
-    let pulse-at = c .before .before .before .before .before .before .before .before .before .before .before .before .pulse-at in
-    let marked = c .before .before .before .before .before .before .before .before .before .before .before .before .before .marked in
-    let if3 = c .before .before .before .before .before .before .before .before .before .before .before .before .before .before .if3 in
-    let is-over = c .before .before .before .before .before .before .before .before .before .before .before .before .before .before .before .is-over in
-    let tick-of = c .before .before .before .before .before .before .before .before .before .before .before .before .before .before .before .before .before .tick-of in
-    let lowest = c .before .before .before .before .before .before .before .before .before .before .before .before .before .before .before .before .before .before .lowest in
-    let loop2 = c .before .before .before .before .before .before .before .before .before .before .before .before .before .before .before .before .before .before .before .before .loop2 in
-    let top = c .before .before .before .before .before .before .before .before .before .before .before .before .before .before .before .before .before .before .before .before .before .before .before .before .before .before .before .top in
-    let span-of = c .before .before .before .before .before .before .before .before .before .before .before .before .before .before .before .before .before .before .before .before .before .before .before .before .before .before .before .before .span-of in
-    let block-length = c .before .before .before .before .before .before .before .before .before .before .before .before .before .before .before .before .before .before .before .before .before .before .before .before .before .before .before .before .before .before .before .before .before .before .block-length in
-    let loop = c .before .before .before .before .before .before .before .before .before .before .before .before .before .before .before .before .before .before .before .before .before .before .before .before .before .before .before .before .before .before .before .before .before .before .before .before .loop in
-    let args = c .before .before .before .before .before .before .before .before .before .before .before .before .before .before .before .before .before .before .before .before .before .before .before .before .before .before .before .before .before .before .before .before .before .before .before .before .before .before .before .before .before .before .before .before .args in
+loop2-less-3 : tie.Need-loop2-less-3 Inv-loop2 μ-loop2 Inv-loop3 μ-loop3 Inv-loop μ-loop
+loop2-less-3 c =
+    let if7 = c .if7 in
+    let if4 = c .before .before .before .if4 in
+    let tick-of = c .before .before .before .before .before .before .before .before .before .before .tick-of in
+    let lowest = c .before .before .before .before .before .before .before .before .before .before .before .lowest in
+    let loop2 = c .before .before .before .before .before .before .before .before .before .before .before .before .before .loop2 in
+    let span-of = c .before .before .before .before .before .before .before .before .before .before .before .before .before .before .before .before .before .before .before .before .before .span-of in
+    let block-length = c .before .before .before .before .before .before .before .before .before .before .before .before .before .before .before .before .before .before .before .before .before .before .before .before .before .before .before .block-length in
+    let loop = c .before .before .before .before .before .before .before .before .before .before .before .before .before .before .before .before .before .before .before .before .before .before .before .before .before .before .before .before .before .loop in
+    let args = c .before .before .before .before .before .before .before .before .before .before .before .before .before .before .before .before .before .before .before .before .before .before .before .before .before .before .before .before .before .before .before .before .before .before .before .before .before .args in
+    turn-taken (loop2 .from) (lowest .result) (loop2 .places) (if7 .places) (loop2 .risk) (if4 .risk) (first-from (machineIn (loop .places) (loop .counts)) (span-of .result) (block-length .result) _ (args .recent .now) (args .base) (args .values .now) (loop .at) (loop .out) (loop2 .out) (loop2 .places) (loop2 .on) (loop2 .risk) (loop2 .counts) (loop2 .at) (loop2 .todo) (loop2 .from) (loop2 .inv) (lowest .result) (tick-of .result) (lowest .ensures) (tick-of .ensures .1)) (lowest .ensures .below)
+
+loop2-again-3 : tie.Need-loop2-again-3 Inv-loop2 μ-loop2 Inv-loop3 μ-loop3 Inv-loop μ-loop
+loop2-again-3 c =
+    let if7 = c .if7 in
+    let marked2 = c .before .marked2 in
+    let twice = c .before .before .twice in
+    let if4 = c .before .before .before .if4 in
+    let framed = c .before .before .before .before .framed in
+    let pulse-at = c .before .before .before .before .before .pulse-at in
+    let marked = c .before .before .before .before .before .before .marked in
+    let if3 = c .before .before .before .before .before .before .before .if3 in
+    let is-over = c .before .before .before .before .before .before .before .before .is-over in
+    let tick-of = c .before .before .before .before .before .before .before .before .before .before .tick-of in
+    let lowest = c .before .before .before .before .before .before .before .before .before .before .before .lowest in
+    let loop2 = c .before .before .before .before .before .before .before .before .before .before .before .before .before .loop2 in
+    let top = c .before .before .before .before .before .before .before .before .before .before .before .before .before .before .before .before .before .before .before .before .top in
+    let span-of = c .before .before .before .before .before .before .before .before .before .before .before .before .before .before .before .before .before .before .before .before .before .span-of in
+    let block-length = c .before .before .before .before .before .before .before .before .before .before .before .before .before .before .before .before .before .before .before .before .before .before .before .before .before .before .before .block-length in
+    let loop = c .before .before .before .before .before .before .before .before .before .before .before .before .before .before .before .before .before .before .before .before .before .before .before .before .before .before .before .before .before .loop in
+    let args = c .before .before .before .before .before .before .before .before .before .before .before .before .before .before .before .before .before .before .before .before .before .before .before .before .before .before .before .before .before .before .before .before .before .before .before .before .before .args in
     let size : length (loop2 .places) ≡ 4 = loop2 .inv .size in
     let stood : Stood (span-of .result) (lowest .result) (tick-of .result) (args .recent .now) (args .base) (args .values .now) (framed .result) (framed .ensures) (block-length .result) (pulse-at .result) (loop2 .places) (loop2 .on) (loop2 .risk) (loop2 .counts) (loop2 .todo) (loop2 .from) (loop2 .inv .todos) (lowest .ensures) (if4 .places) (if4 .on) (if4 .risk) (if4 .counts) (if4 .todo) =
     either (if4 .came)
@@ -803,54 +664,35 @@ loop2-again-5 c =
     (λ v. framed-as (loop2 .places) (loop2 .on) (loop2 .risk) (loop2 .counts) (lowest .result) (pulse-at .result) (w .4 .result) (loop2 .places) (w .12 .places) (loop2 .on) (w .12 .on) (loop2 .risk) (w .12 .risk) (w .8 .result) (framed-shut (loop2 .places) (loop2 .on) (loop2 .risk) (loop2 .counts) (lowest .result) (pulse-at .result) (w .4 .result) size (lowest .ensures .below) (omega (arith, ap (λ (q : Pulse). q .tick .0) (w .4 .ensures), tick-of .ensures .0, w .1 .ensures .1)) (w .5 .result) (w .5 .ensures) (w .6 .result) (w .6 .ensures) (w .7 .result) (w .7 .ensures) (w .9 .result) (w .9 .ensures) (λ z. omega (arith, w .10 .left)) (w .8 .result) (w .8 .ensures) (w .11 .result) (w .11 .ensures) (v .0 .left)) (v .1) (v .2) (v .3)))
     (top .ensures) (w .13 .ensures) (w .14 .ensures) (w .15) (w .16) (w .17) (w .18) (w .19))
     (λ w. stood-plain (span-of .result) (lowest .result) (tick-of .result) (args .recent .now) (args .base) (args .values .now) (framed .result) (framed .ensures) (block-length .result) (pulse-at .result) (loop2 .places) (loop2 .on) (loop2 .risk) (loop2 .counts) (loop2 .todo) (loop2 .from) (loop2 .inv .todos) (lowest .ensures) (w .0 .left) (if4 .places) (if4 .on) (if4 .risk) (if4 .counts) (if4 .todo) (w .1 .result) (w .1 .ensures) (w .2) (w .3) (w .4) (w .5) (w .6)) in
-    let dealt : Dealt (if4 .places) (if4 .on) (lowest .result) (pulse-at .result) (set (if4 .places) (which .result) (heard5 .result)) = (deals-one (if4 .places) (if4 .on) (lowest .result) (pulse-at .result) (stood .size ∙ size) (twice .result) (any-word .result) (which .result) (marked2 .result) (marked7 .result) (speaks .result) (heard5 .result) (twice .ensures) (marked2 .ensures) (if7 .left) (any-word .ensures) (marked7 .ensures) (if12 .taken) (which .ensures .0) (speaks .ensures) (heard5 .ensures)) in
-    work-taken (machineIn (loop .places) (loop .counts)) (span-of .result) (block-length .result) _ (args .recent .now) (args .base) (args .values .now) (loop .at) (loop .out) (loop2 .out) (loop2 .places) (loop2 .on) (loop2 .risk) (loop2 .counts) (loop2 .at) (loop2 .todo) (loop2 .from) (loop2 .inv) (lowest .result) (tick-of .result) (lowest .ensures) (tick-of .ensures .1) (is-over .result) (is-over .ensures) (if3 .left) (pulse-at .result) (pulse-as (span-of .result .main) (lowest .result) (tick-of .result) (args .recent .now) (args .base) (args .values .now) (marked .result) (pulse-at .result) (marked .ensures) (pulse-at .ensures)) (bracketIn (span-of .result) (lowest .result) (tick-of .result) (args .recent .now) (args .base) (args .values .now)) refl _ (if4 .on) (if4 .risk) (if4 .counts) (stood .visits _ (dealt .deal)) (if4 .todo) (stood .todos) (dealt .size ∙ stood .size ∙ size)
-
-loop2-less-6 : tie.Need-loop2-less-6 Inv-loop2 μ-loop2 Inv-loop3 μ-loop3 Inv-loop μ-loop
-loop2-less-6 c =
-    let if4 = c .before .before .before .before .before .before .if4 in
-    let tick-of = c .before .before .before .before .before .before .before .before .before .before .before .before .before .tick-of in
-    let lowest = c .before .before .before .before .before .before .before .before .before .before .before .before .before .before .lowest in
-    let loop2 = c .before .before .before .before .before .before .before .before .before .before .before .before .before .before .before .before .loop2 in
-    let span-of = c .before .before .before .before .before .before .before .before .before .before .before .before .before .before .before .before .before .before .before .before .before .before .before .before .span-of in
-    let block-length = c .before .before .before .before .before .before .before .before .before .before .before .before .before .before .before .before .before .before .before .before .before .before .before .before .before .before .before .before .before .before .block-length in
-    let loop = c .before .before .before .before .before .before .before .before .before .before .before .before .before .before .before .before .before .before .before .before .before .before .before .before .before .before .before .before .before .before .before .before .loop in
-    let args = c .before .before .before .before .before .before .before .before .before .before .before .before .before .before .before .before .before .before .before .before .before .before .before .before .before .before .before .before .before .before .before .before .before .before .before .before .before .before .before .before .args in
-    turn-taken (loop2 .from) (lowest .result) (loop2 .places) (if4 .places) (loop2 .risk) (if4 .risk) (first-from (machineIn (loop .places) (loop .counts)) (span-of .result) (block-length .result) _ (args .recent .now) (args .base) (args .values .now) (loop .at) (loop .out) (loop2 .out) (loop2 .places) (loop2 .on) (loop2 .risk) (loop2 .counts) (loop2 .at) (loop2 .todo) (loop2 .from) (loop2 .inv) (lowest .result) (tick-of .result) (lowest .ensures) (tick-of .ensures .1)) (lowest .ensures .below)
-
-loop2-again-6 : tie.Need-loop2-again-6 Inv-loop2 μ-loop2 Inv-loop3 μ-loop3 Inv-loop μ-loop
-loop2-again-6 c =
-    let if12 = c .if12 in
-    let marked7 = c .before .marked7 in
-    let any-word = c .before .before .any-word in
-    let if4 = c .before .before .before .before .before .before .if4 in
-    let framed = c .before .before .before .before .before .before .before .framed in
-    let pulse-at = c .before .before .before .before .before .before .before .before .pulse-at in
-    let marked = c .before .before .before .before .before .before .before .before .before .marked in
-    let if3 = c .before .before .before .before .before .before .before .before .before .before .if3 in
-    let is-over = c .before .before .before .before .before .before .before .before .before .before .before .is-over in
-    let tick-of = c .before .before .before .before .before .before .before .before .before .before .before .before .before .tick-of in
-    let lowest = c .before .before .before .before .before .before .before .before .before .before .before .before .before .before .lowest in
-    let loop2 = c .before .before .before .before .before .before .before .before .before .before .before .before .before .before .before .before .loop2 in
-    let top = c .before .before .before .before .before .before .before .before .before .before .before .before .before .before .before .before .before .before .before .before .before .before .before .top in
-    let span-of = c .before .before .before .before .before .before .before .before .before .before .before .before .before .before .before .before .before .before .before .before .before .before .before .before .span-of in
-    let block-length = c .before .before .before .before .before .before .before .before .before .before .before .before .before .before .before .before .before .before .before .before .before .before .before .before .before .before .before .before .before .before .block-length in
-    let loop = c .before .before .before .before .before .before .before .before .before .before .before .before .before .before .before .before .before .before .before .before .before .before .before .before .before .before .before .before .before .before .before .before .loop in
-    let args = c .before .before .before .before .before .before .before .before .before .before .before .before .before .before .before .before .before .before .before .before .before .before .before .before .before .before .before .before .before .before .before .before .before .before .before .before .before .before .before .before .args in
-    let size : length (loop2 .places) ≡ 4 = loop2 .inv .size in
-    let stood : Stood (span-of .result) (lowest .result) (tick-of .result) (args .recent .now) (args .base) (args .values .now) (framed .result) (framed .ensures) (block-length .result) (pulse-at .result) (loop2 .places) (loop2 .on) (loop2 .risk) (loop2 .counts) (loop2 .todo) (loop2 .from) (loop2 .inv .todos) (lowest .ensures) (if4 .places) (if4 .on) (if4 .risk) (if4 .counts) (if4 .todo) =
-    either (if4 .came)
-    (λ w. stood-framed (span-of .result) (lowest .result) (tick-of .result) (args .recent .now) (args .base) (args .values .now) (framed .result) (framed .ensures) (block-length .result) (pulse-at .result) (loop2 .places) (loop2 .on) (loop2 .risk) (loop2 .counts) (loop2 .todo) (loop2 .from) (loop2 .inv .todos) (lowest .ensures) (w .4 .result)
-    (second-as (span-of .result) (lowest .result) (tick-of .result) (args .recent .now) (args .base) (args .values .now) (framed .result) (framed .ensures) (w .0 .taken) (w .3 .result) (w .3 .ensures) (w .1 .result) (w .1 .ensures .0) (w .4 .result) (w .4 .ensures))
-    (if4 .places) (if4 .on) (if4 .risk) (if4 .counts) (if4 .todo) (top .result) (w .13 .result) (w .14 .result) (w .12 .places) (w .12 .on) (w .12 .risk) (w .8 .result)
-    (either (w .12 .came)
-    (λ v. framed-as (loop2 .places) (loop2 .on) (loop2 .risk) (loop2 .counts) (lowest .result) (pulse-at .result) (w .4 .result) _ (w .12 .places) (v .5 .result) (w .12 .on) (v .7 .result) (w .12 .risk) (w .8 .result)
-    (framed-opens (loop2 .places) (loop2 .on) (loop2 .risk) (loop2 .counts) (lowest .result) (pulse-at .result) (w .4 .result) size (lowest .ensures .below) (omega (arith, ap (λ (q : Pulse). q .tick .0) (w .4 .ensures), tick-of .ensures .0, w .1 .ensures .1)) (w .5 .result) (w .5 .ensures) (w .6 .result) (w .6 .ensures) (w .7 .result) (w .7 .ensures) (w .9 .result) (w .9 .ensures) (λ z. omega (arith, w .10 .left)) (w .8 .result) (w .8 .ensures) (w .11 .result) (w .11 .ensures) (v .0 .taken) (v .1 .result) (v .1 .ensures) (v .3 .result) (v .3 .ensures .0) (v .3 .ensures .1) (v .4 .result) (v .6 .result) (v .4 .ensures) (v .6 .ensures) (v .5 .result) (v .7 .result) (v .5 .ensures) (v .7 .ensures) _ refl) (v .8) (v .9) (v .10))
-    (λ v. framed-as (loop2 .places) (loop2 .on) (loop2 .risk) (loop2 .counts) (lowest .result) (pulse-at .result) (w .4 .result) (loop2 .places) (w .12 .places) (loop2 .on) (w .12 .on) (loop2 .risk) (w .12 .risk) (w .8 .result) (framed-shut (loop2 .places) (loop2 .on) (loop2 .risk) (loop2 .counts) (lowest .result) (pulse-at .result) (w .4 .result) size (lowest .ensures .below) (omega (arith, ap (λ (q : Pulse). q .tick .0) (w .4 .ensures), tick-of .ensures .0, w .1 .ensures .1)) (w .5 .result) (w .5 .ensures) (w .6 .result) (w .6 .ensures) (w .7 .result) (w .7 .ensures) (w .9 .result) (w .9 .ensures) (λ z. omega (arith, w .10 .left)) (w .8 .result) (w .8 .ensures) (w .11 .result) (w .11 .ensures) (v .0 .left)) (v .1) (v .2) (v .3)))
-    (top .ensures) (w .13 .ensures) (w .14 .ensures) (w .15) (w .16) (w .17) (w .18) (w .19))
-    (λ w. stood-plain (span-of .result) (lowest .result) (tick-of .result) (args .recent .now) (args .base) (args .values .now) (framed .result) (framed .ensures) (block-length .result) (pulse-at .result) (loop2 .places) (loop2 .on) (loop2 .risk) (loop2 .counts) (loop2 .todo) (loop2 .from) (loop2 .inv .todos) (lowest .ensures) (w .0 .left) (if4 .places) (if4 .on) (if4 .risk) (if4 .counts) (if4 .todo) (w .1 .result) (w .1 .ensures) (w .2) (w .3) (w .4) (w .5) (w .6)) in
-    let dealt : Dealt (if4 .places) (if4 .on) (lowest .result) (pulse-at .result) (if4 .places) = (deals-none (if4 .places) (if4 .on) (lowest .result) (pulse-at .result) (stood .size ∙ size) (any-word .result) (marked7 .result) (any-word .ensures) (marked7 .ensures) (if12 .left)) in
-    work-taken (machineIn (loop .places) (loop .counts)) (span-of .result) (block-length .result) _ (args .recent .now) (args .base) (args .values .now) (loop .at) (loop .out) (loop2 .out) (loop2 .places) (loop2 .on) (loop2 .risk) (loop2 .counts) (loop2 .at) (loop2 .todo) (loop2 .from) (loop2 .inv) (lowest .result) (tick-of .result) (lowest .ensures) (tick-of .ensures .1) (is-over .result) (is-over .ensures) (if3 .left) (pulse-at .result) (pulse-as (span-of .result .main) (lowest .result) (tick-of .result) (args .recent .now) (args .base) (args .values .now) (marked .result) (pulse-at .result) (marked .ensures) (pulse-at .ensures)) (bracketIn (span-of .result) (lowest .result) (tick-of .result) (args .recent .now) (args .base) (args .values .now)) refl _ (if4 .on) (if4 .risk) (if4 .counts) (stood .visits _ (dealt .deal)) (if4 .todo) (stood .todos) (dealt .size ∙ stood .size ∙ size)
+    let dealt : Dealt (if4 .places) (if4 .on) (lowest .result) (pulse-at .result) (if7 .places) =
+    either (if7 .came)
+    (λ w. (subst (λ (m : List Place). Dealt (if4 .places) (if4 .on) (lowest .result) (pulse-at .result) m) (sym (w .13)) (deals-four (if4 .places) (w .3 .places) (w .5 .places) (w .7 .places) (set (w .7 .places) 3 (w .12 .result)) (if4 .on) (lowest .result) (pulse-at .result) (stood .size ∙ size) (w .2 .result) (w .4 .result) (w .6 .result) (w .8 .result) (w .2 .ensures) (w .4 .ensures) (w .6 .ensures) (w .8 .ensures) (w .1 .result) (w .1 .ensures)
+    (either (w .3 .came)
+    (λ z. turns-did (w .2 .result) 0 (pulse-at .result) (w .1 .result .a) (any3 (w .1 .result .b) (w .1 .result .c) (w .1 .result .d)) (z .2 .result) (if4 .places) (w .3 .places) (z .3 .result) (z .0 .taken) (z .4) (z .3 .ensures) (z .2 .ensures))
+    (λ z. turns-not (w .2 .result) 0 (pulse-at .result) (w .1 .result .a) (any3 (w .1 .result .b) (w .1 .result .c) (w .1 .result .d)) (if4 .places) (w .3 .places) (z .0 .left) (z .1)))
+    (either (w .5 .came)
+    (λ z. turns-did (w .4 .result) 1 (pulse-at .result) (w .1 .result .b) (any3 (w .1 .result .a) (w .1 .result .c) (w .1 .result .d)) (z .2 .result) (w .3 .places) (w .5 .places) (z .3 .result) (z .0 .taken) (z .4) (z .3 .ensures) (z .2 .ensures))
+    (λ z. turns-not (w .4 .result) 1 (pulse-at .result) (w .1 .result .b) (any3 (w .1 .result .a) (w .1 .result .c) (w .1 .result .d)) (w .3 .places) (w .5 .places) (z .0 .left) (z .1)))
+    (either (w .7 .came)
+    (λ z. turns-did (w .6 .result) 2 (pulse-at .result) (w .1 .result .c) (any3 (w .1 .result .a) (w .1 .result .b) (w .1 .result .d)) (z .2 .result) (w .5 .places) (w .7 .places) (z .3 .result) (z .0 .taken) (z .4) (z .3 .ensures) (z .2 .ensures))
+    (λ z. turns-not (w .6 .result) 2 (pulse-at .result) (w .1 .result .c) (any3 (w .1 .result .a) (w .1 .result .b) (w .1 .result .d)) (w .5 .places) (w .7 .places) (z .0 .left) (z .1)))
+    (turns-did (w .8 .result) 3 (pulse-at .result) (w .1 .result .d) (any3 (w .1 .result .a) (w .1 .result .b) (w .1 .result .c)) (w .11 .result) (w .7 .places) (set (w .7 .places) 3 (w .12 .result)) (w .12 .result) (w .9 .taken) refl (w .12 .ensures) (w .11 .ensures)))))
+    (λ x. either x
+    (λ w. (subst (λ (m : List Place). Dealt (if4 .places) (if4 .on) (lowest .result) (pulse-at .result) m) (sym (w .10)) (deals-four (if4 .places) (w .3 .places) (w .5 .places) (w .7 .places) (w .7 .places) (if4 .on) (lowest .result) (pulse-at .result) (stood .size ∙ size) (w .2 .result) (w .4 .result) (w .6 .result) (w .8 .result) (w .2 .ensures) (w .4 .ensures) (w .6 .ensures) (w .8 .ensures) (w .1 .result) (w .1 .ensures)
+    (either (w .3 .came)
+    (λ z. turns-did (w .2 .result) 0 (pulse-at .result) (w .1 .result .a) (any3 (w .1 .result .b) (w .1 .result .c) (w .1 .result .d)) (z .2 .result) (if4 .places) (w .3 .places) (z .3 .result) (z .0 .taken) (z .4) (z .3 .ensures) (z .2 .ensures))
+    (λ z. turns-not (w .2 .result) 0 (pulse-at .result) (w .1 .result .a) (any3 (w .1 .result .b) (w .1 .result .c) (w .1 .result .d)) (if4 .places) (w .3 .places) (z .0 .left) (z .1)))
+    (either (w .5 .came)
+    (λ z. turns-did (w .4 .result) 1 (pulse-at .result) (w .1 .result .b) (any3 (w .1 .result .a) (w .1 .result .c) (w .1 .result .d)) (z .2 .result) (w .3 .places) (w .5 .places) (z .3 .result) (z .0 .taken) (z .4) (z .3 .ensures) (z .2 .ensures))
+    (λ z. turns-not (w .4 .result) 1 (pulse-at .result) (w .1 .result .b) (any3 (w .1 .result .a) (w .1 .result .c) (w .1 .result .d)) (w .3 .places) (w .5 .places) (z .0 .left) (z .1)))
+    (either (w .7 .came)
+    (λ z. turns-did (w .6 .result) 2 (pulse-at .result) (w .1 .result .c) (any3 (w .1 .result .a) (w .1 .result .b) (w .1 .result .d)) (z .2 .result) (w .5 .places) (w .7 .places) (z .3 .result) (z .0 .taken) (z .4) (z .3 .ensures) (z .2 .ensures))
+    (λ z. turns-not (w .6 .result) 2 (pulse-at .result) (w .1 .result .c) (any3 (w .1 .result .a) (w .1 .result .b) (w .1 .result .d)) (w .5 .places) (w .7 .places) (z .0 .left) (z .1)))
+    (turns-not (w .8 .result) 3 (pulse-at .result) (w .1 .result .d) (any3 (w .1 .result .a) (w .1 .result .b) (w .1 .result .c)) (w .7 .places) (w .7 .places) (w .9 .left) refl))))
+    (λ y. either y
+    (λ w. (subst (λ (m : List Place). Dealt (if4 .places) (if4 .on) (lowest .result) (pulse-at .result) m) (sym (w .8)) (deals-one (if4 .places) (if4 .on) (lowest .result) (pulse-at .result) (stood .size ∙ size) (twice .result) (w .1 .result) (w .4 .result) (marked2 .result) (w .2 .result) (w .6 .result) (w .7 .result) (twice .ensures) (marked2 .ensures) (w .0 .left) (w .1 .ensures) (w .2 .ensures) (w .3 .taken) (w .4 .ensures .0) (w .6 .ensures) (w .7 .ensures))))
+    (λ w. (subst (λ (m : List Place). Dealt (if4 .places) (if4 .on) (lowest .result) (pulse-at .result) m) (sym (w .4)) (deals-none (if4 .places) (if4 .on) (lowest .result) (pulse-at .result) (stood .size ∙ size) (w .1 .result) (w .2 .result) (w .1 .ensures) (w .2 .ensures) (w .3 .left)))))) in
+    work-taken (machineIn (loop .places) (loop .counts)) (span-of .result) (block-length .result) _ (args .recent .now) (args .base) (args .values .now) (loop .at) (loop .out) (loop2 .out) (loop2 .places) (loop2 .on) (loop2 .risk) (loop2 .counts) (loop2 .at) (loop2 .todo) (loop2 .from) (loop2 .inv) (lowest .result) (tick-of .result) (lowest .ensures) (tick-of .ensures .1) (is-over .result) (is-over .ensures) (if3 .left) (pulse-at .result) (pulse-as (span-of .result .main) (lowest .result) (tick-of .result) (args .recent .now) (args .base) (args .values .now) (marked .result) (pulse-at .result) (marked .ensures) (pulse-at .ensures)) (bracketIn (span-of .result) (lowest .result) (tick-of .result) (args .recent .now) (args .base) (args .values .now)) refl (if7 .places) (if4 .on) (if4 .risk) (if4 .counts) (stood .visits (if7 .places) (dealt .deal)) (if4 .todo) (stood .todos) (dealt .size ∙ stood .size ∙ size)
 
 loop3-holds : tie.Need-loop3-holds Inv-loop2 μ-loop2 Inv-loop3 μ-loop3 Inv-loop μ-loop
 loop3-holds c =
@@ -890,23 +732,22 @@ loop-again-3 c =
     let array-of = c .before .before .before .before .before .before .before .before .before .before .before .before .before .before .before .before .before .before .before .before .before .before .before .array-of in
     let args = c .before .before .before .before .before .before .before .before .before .before .before .before .before .before .before .before .before .before .before .before .before .before .before .before .before .before .before .before .before .args in
     let o : Progress = record { front = loop .front; machine = machineIn (loop .places) (loop .counts); at = loop .at } in
-    let m = machineIn (loop3 .places) (loop2 .counts) in (
-      loop3 .inv .size (loop2 .inv .size),
-      feed-next (record { front = args .o .front; machine = machineIn (array-of .result) (args .o .machine .counts); at = args .o .at }) (args .recent .now) (args .base) (args .flags .now) (args .values .now) (args .out .now)
-          (loop .out) o (loop .done) (block-length .result) _ (packed .result) (record { front = advance .result; machine = m; at = loop3 .at }) (loop3 .out) (omega (arith, block-length .ensures .1 .1 .0, test1 .taken)) refl (packed .ensures)
-          (block-law o (packed .result) (block-length .result) _ (args .recent .now) (args .base) (args .values .now) (loop .out) (advance .result) (span-of .result) m (loop3 .at) (loop3 .out) (advance .ensures) (span-of .ensures)
-          (end-works (machineIn (loop .places) (loop .counts)) (span-of .result) (block-length .result) _ (args .recent .now) (args .base) (args .values .now) (loop .at) (loop .out) (loop3 .out) (loop3 .places) (loop2 .counts) (loop3 .at)
-          (loop3 .inv .ends (machineIn (loop .places) (loop .counts)) (span-of .result) (loop .at) (loop .out) (end-start (machineIn (loop .places) (loop .counts)) (span-of .result) (block-length .result) _ (args .recent .now) (args .base) (args .values .now) (loop .at) (loop .out) (loop2 .out) (loop2 .places) (loop2 .on) (loop2 .risk) (loop2 .counts) (loop2 .at) (loop2 .todo) (loop2 .from) (loop2 .inv) (test2 .left)))
-          (sym (none-due2 .ensures) ∙ not-false _ (if13 .left))))
-          (loop .inv .1),
-    )
+    let m = machineIn (loop3 .places) (loop2 .counts) in
+    (loop3 .inv .size (loop2 .inv .size),
+    feed-next (record { front = args .o .front; machine = machineIn (array-of .result) (args .o .machine .counts); at = args .o .at }) (args .recent .now) (args .base) (args .flags .now) (args .values .now) (args .out .now)
+    (loop .out) o (loop .done) (block-length .result) _ (packed .result) (record { front = advance .result; machine = m; at = loop3 .at }) (loop3 .out) (omega (arith, block-length .ensures .1 .1 .0, test1 .taken)) refl (packed .ensures)
+    (block-law o (packed .result) (block-length .result) _ (args .recent .now) (args .base) (args .values .now) (loop .out) (advance .result) (span-of .result) m (loop3 .at) (loop3 .out) (advance .ensures) (span-of .ensures)
+    (end-works (machineIn (loop .places) (loop .counts)) (span-of .result) (block-length .result) _ (args .recent .now) (args .base) (args .values .now) (loop .at) (loop .out) (loop3 .out) (loop3 .places) (loop2 .counts) (loop3 .at)
+    (loop3 .inv .ends (machineIn (loop .places) (loop .counts)) (span-of .result) (loop .at) (loop .out) (end-start (machineIn (loop .places) (loop .counts)) (span-of .result) (block-length .result) _ (args .recent .now) (args .base) (args .values .now) (loop .at) (loop .out) (loop2 .out) (loop2 .places) (loop2 .on) (loop2 .risk) (loop2 .counts) (loop2 .at) (loop2 .todo) (loop2 .from) (loop2 .inv) (test2 .left)))
+    (sym (none-due2 .ensures) ∙ not-false _ (if13 .left))))
+    (loop .inv .1))
 
 array-copy-out-hand-one-2 :
     tie.Need-array-copy-out-hand-one-2 Inv-loop2 μ-loop2 Inv-loop3 μ-loop3 Inv-loop μ-loop
 array-copy-out-hand-one-2 c = search needs
 
-sub-t155 : tie.Need-sub-t155 Inv-loop2 μ-loop2 Inv-loop3 μ-loop3 Inv-loop μ-loop
-sub-t155 c =
+sub-t156 : tie.Need-sub-t156 Inv-loop2 μ-loop2 Inv-loop3 μ-loop3 Inv-loop μ-loop
+sub-t156 c =
     let if13 = c .before .if13 in
     let none-due2 = c .before .before .none-due2 in
     let loop3 = c .before .before .before .before .loop3 in
@@ -1085,7 +926,6 @@ feed-blocks-spec =
     above-requires
     wanted-requires-2
     without-lowest-requires
-    add-from
     twice-requires
     marked-requires-2
     voices-of-requires
@@ -1109,10 +949,6 @@ feed-blocks-spec =
     any3-requires-4
     heard-requires-4
     array-set-from-places-5
-    loop2-less-3
-    loop2-again-3
-    loop2-less-4
-    loop2-again-4
     any-word-requires
     marked-requires-7
     which-requires
@@ -1122,17 +958,16 @@ feed-blocks-spec =
     heard-requires-5
     mul-places-2
     array-set-from-places-6
-    loop2-less-5
-    loop2-again-5
-    loop2-less-6
-    loop2-again-6
+    add-from
+    loop2-less-3
+    loop2-again-3
     loop3-holds
     array-copy-out-none-due-2
     none-due-requires-2
     loop-less-3
     loop-again-3
     array-copy-out-hand-one-2
-    sub-t155
+    sub-t156
     hand-one-requires-2
     array-copy-out-kept-7
     kept-requires-7
