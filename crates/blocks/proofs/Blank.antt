@@ -12,7 +12,7 @@ use Rattle.rules.specs.declared.Slot.{Slot}
 use Rattle.rules.specs.declared.Slot.the-variants.{Idle, Open}
 use Rattle.rules.specs.Replies.{f1, ended}
 use Rattle.rules.proofs.Truth.{impossible}
-use Rattle.machine.specs.Places.{testSlot, test}
+use Rattle.places.specs.Places.{testSlot, test}
 use Rattle.packing.specs.declared.Planes.{Planes}
 use Rattle.front.specs.declared.words.Front.{Front}
 use Rattle.front.specs.Post.{AdvancePost, SpanPost, blank}

@@ -12,7 +12,7 @@ use Rattle.rules.specs.Machine.{State}
 use Rattle.rules.specs.Records.{records}
 use Rattle.rules.specs.Calls.{fresh}
 use Rattle.rules.proofs.Joining.{assoc, fresh-join, handed-fresh, handed-done, after-known, records-append, records-length}
-use Rattle.machine.specs.Places.{machineOf}
+use Rattle.places.specs.Places.{machineOf}
 use Rattle.rules.specs.Buffers.{over-at}
 use Rattle.rules.proofs.Buffers.{over-at-more}
 use Rattle.packing.specs.declared.Planes.{Planes}

@@ -7,3 +7,4 @@ pub mod Working
 pub mod BlockLaws
 pub mod ZeroWords
 pub mod Blank
+pub mod Feeding

@@ -30,9 +30,9 @@ use Rattle.rules.proofs.EachReply.{value-byte, framing, framed-byte, ranged-eac
 use Rattle.rules.proofs.Answers.{standard-allowed}
 use Rattle.records.specs.Post.{Queue}
 use Rattle.records.proofs.Handing.{ordered-queue}
-use Rattle.machine.specs.Places.{test, placeAt}
-use Rattle.machine.specs.Post.{Small, f2Value, Fits}
-use Rattle.machine.proofs.Steps.{balanced-small}
+use Rattle.places.specs.Places.{test, placeAt}
+use Rattle.places.specs.Post.{Small, f2Value, Fits}
+use Rattle.places.proofs.Steps.{balanced-small}
 use Rattle.plane.specs.Words.{bit, Lowest}
 use Rattle.plane.proofs.BitLaws.{zero-bit}
 use Rattle.front.specs.declared.span.Span.{Span}

@@ -26,7 +26,7 @@ use Rattle.rules.specs.Machine.{openedBy, fateBy, tally}
 use Rattle.rules.specs.Settings.{standard}
 use Rattle.rules.proofs.Truth.{impossible, or-left, or-right}
 use Rattle.replies.specs.Sums.{wrapped}
-use Rattle.machine.specs.Places.{test, testSlot, always, idle, any3, anyIn, countIn, withoutIn, withoutBy, pushed, placesAfter, hearSlot, hearIn, dealt, openedIn, fateIn, bracketOn, bracketIf, stepOn, placeAt, placed}
+use Rattle.places.specs.Places.{test, testSlot, always, idle, any3, anyIn, countIn, withoutIn, withoutBy, pushed, placesAfter, hearSlot, hearIn, dealt, openedIn, fateIn, bracketOn, bracketIf, stepOn, placeAt, placed}
 use Rattle.masks.specs.Masks.{coversFrom, phantomFrom, CoverMask, PhantomMask}
 use Rattle.plane.specs.Words.{bit}
 use Rattle.covering.specs.declared.Words.{Words}

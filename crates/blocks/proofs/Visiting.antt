@@ -19,8 +19,8 @@ use Rattle.rules.specs.Edges.{edgeAt}
 use Rattle.rules.specs.Replies.{covers}
 use Rattle.rules.specs.Machine.{bracketAt}
 use Rattle.rules.proofs.Truth.{impossible, same-or, and-left, and-right, or-left, or-right}
-use Rattle.machine.specs.Places.{any3, anyIn, placed}
-use Rattle.machine.proofs.Placed.{any-placed}
+use Rattle.places.specs.Places.{any3, anyIn, placed}
+use Rattle.places.proofs.Placed.{any-placed}
 use Rattle.plane.specs.Words.{bit, Lowest, WithoutLowest}
 use Rattle.plane.proofs.BitLaws.{bit-and, bit-or}
 use Rattle.covering.specs.declared.Words.{Words}

@@ -33,9 +33,9 @@ use Rattle.rules.proofs.Skipping.{done-grows}
 use Rattle.replies.specs.Sums.{wrapped}
 use Rattle.records.specs.Post.{dueSlot, HandedPost, InOrder, Queue}
 use Rattle.records.proofs.Handing.{all-open}
-use Rattle.machine.specs.Places.{test, idle, stepOn, placeAt, placed, machineOf}
-use Rattle.machine.specs.Post.{Small, Fits, EdgePost}
-use Rattle.machine.proofs.Steps.{edge-post}
+use Rattle.places.specs.Places.{test, idle, stepOn, placeAt, placed, machineOf}
+use Rattle.places.specs.Post.{Small, Fits, EdgePost}
+use Rattle.places.proofs.Steps.{edge-post}
 use Rattle.plane.specs.Words.{bit, Lowest, WithoutLowest}
 use Rattle.plane.proofs.BitLaws.{zero-bit}
 use Rattle.covering.specs.declared.Words.{Words}

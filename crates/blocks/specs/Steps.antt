@@ -1,6 +1,6 @@
 -- What the functions of a piece answer, for the trace that their words and values belong to.
 use Prim.Native.Nat.{ℕ, suc, _+_, _-_, _*_, _≤_, _<_}
-use mathlib.Core.Bool.{Bool, true, false, not, _&&_, _||_}
+use mathlib.Core.Bool.{Bool, true, not, _&&_, _||_, cond}
 use mathlib.Core.List.{List, _++_}
 use mathlib.Core.Path.{_≡_}
 use lib.Dec.{eqb, ltb}
@@ -17,7 +17,7 @@ use Rattle.rules.specs.Machine.{State, bracketAt, after}
 use Rattle.rules.specs.Records.{records}
 use Rattle.rules.specs.Calls.{fresh}
 use Rattle.rules.specs.declared.Counts.{Counts}
-use Rattle.machine.specs.Places.{test, machineOf}
+use Rattle.places.specs.Places.{test, machineOf}
 use Rattle.rules.specs.declared.Place.{Place}
 use Rattle.covering.specs.declared.Words.{Words}
 use Rattle.covering.specs.Marks.{anyAt}
@@ -33,6 +33,10 @@ use Rattle.front.specs.Post.{Low, Reads, Spanned, framedIn, blank}
 -- no flag
 abbrev pub flagless : Planes → Bool
 flagless x = eqb (x .a) 0 && (eqb (x .p) 0 && (eqb (x .n) 0 && eqb (x .m) 0))
+
+-- a block has 64 ticks, or all that are left
+abbrev pub blockLength : ℕ → ℕ
+blockLength n = cond (ltb n 64) n 64
 
 -- ---- the machine at work
 

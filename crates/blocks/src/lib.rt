@@ -1,9 +1,11 @@
 // A block of up to 64 ticks: which of its edges the machine visits, the edges themselves, and when a block changes nothing.
-ghost use Prim.Native.Nat.{_+_, _<_};
+ghost use Prim.Native.Nat.{_+_, _≤_, _<_};
 ghost use mathlib.Core.Path.{_≡_};
 ghost use mathlib.Core.Bool.{_&&_};
+ghost use lib.ListN.{length};
+ghost use Rattle.packing.specs.Packing.{PackedPart};
 ghost use Rattle.front.specs.Post.{valueOf, blank};
-ghost use Rattle.blocks.specs.Steps.{Wanted, flagless, noneDue};
+ghost use Rattle.blocks.specs.Steps.{blockLength, Wanted, flagless, noneDue};
 use covering::Words;
 use covering::any_word;
 use front::span::Span;
@@ -12,10 +14,45 @@ use front::words::Front;
 use front::words::is_blank;
 use outcomes::is_over;
 use packing::Planes;
+use packing::flags::bare_block;
+use packing::pack;
+use packing::pack_part;
 use rules::Machine;
 use rules::Place;
 use rules::Pulse;
 use rules::Tick;
+
+// The planes of r ticks from o on.
+pub fn packed(flags: &[u8], o: usize, r: usize) -> Planes
+    requires { ⌜ (o + r ≤ length (now flags)) × (r ≤ 64) ⌝ }
+    ensures { λ x. ⌜ PackedPart (now (flags .entry)) o r x ⌝ }
+{
+    if r == 64 {
+        if bare_block(flags, o) {
+            return Planes {
+                a: 0,
+                p: 0,
+                n: 0,
+                m: 0,
+            };
+        }
+        return pack(flags, o);
+    }
+    pack_part(flags, o, r)
+}
+
+// How many of the n ticks left the next block takes.
+pub fn block_length(n: usize) -> usize
+    ensures is { λ r. ⌜ r ≡ blockLength n ⌝ }
+    ensures most { λ r. ⌜ r ≤ 64 ⌝ }
+    ensures within { λ r. ⌜ r ≤ n ⌝ }
+    ensures some { λ r. ⌜ (0 < n → 0 < r) ⌝ }
+{
+    if n < 64 {
+        return n;
+    }
+    64
+}
 
 // How far a piece has come: the words and the machine so far, and the place in the buffer behind the last record.
 pub struct Progress {

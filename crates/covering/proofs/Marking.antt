@@ -12,8 +12,8 @@ use Rattle.rules.specs.declared.Reply.{Reply}
 use Rattle.rules.specs.declared.Place.{Place}
 use Rattle.plane.specs.Words.{bit}
 use Rattle.plane.proofs.BitLaws.{bit-and, bit-or, zero-bit}
-use Rattle.machine.specs.Places.{test, idle, any3, anyIn}
-use Rattle.machine.proofs.PlaceLaws.{any-four}
+use Rattle.places.specs.Places.{test, idle, any3, anyIn}
+use Rattle.places.proofs.PlaceLaws.{any-four}
 use Rattle.covering.specs.declared.Words.{Words}
 use Rattle.covering.specs.Marks.{behindOf, lastOf, leavingBy, four, Marked, withWord, withoutWord, withoutPlace, AnyWord, anyAt, TwiceWord, twoOf, whichOf, lastIn, lastOn}
 

@@ -9,7 +9,7 @@ use Rattle.rules.specs.declared.Slot.the-variants.{Idle, Open}
 use Rattle.rules.specs.declared.Place.{Place}
 use Rattle.rules.specs.Replies.{f1, covers, isPhantom}
 use Rattle.plane.proofs.BitLaws.{zero-bit}
-use Rattle.machine.specs.Places.{test, testSlot, idle}
+use Rattle.places.specs.Places.{test, testSlot, idle}
 use Rattle.masks.specs.Masks.{coversFrom, phantomFrom, CoverMask, PhantomMask}
 use Rattle.covering.specs.declared.Words.{Words}
 use Rattle.covering.specs.Marks.{Marked, AllMarked}

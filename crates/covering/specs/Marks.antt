@@ -10,7 +10,7 @@ use Rattle.rules.specs.declared.Place.{Place}
 use Rattle.rules.specs.declared.Places.{Places}
 use Rattle.rules.specs.Replies.{covers, isPhantom}
 use Rattle.plane.specs.Words.{bit}
-use Rattle.machine.specs.Places.{test, idle, any3}
+use Rattle.places.specs.Places.{test, idle, any3}
 use Rattle.covering.specs.declared.Words.{Words}
 
 -- the four places of a list

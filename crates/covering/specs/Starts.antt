@@ -6,7 +6,7 @@ use mathlib.Core.List.{List}
 use Rattle.rules.specs.declared.Reply.{Reply}
 use Rattle.rules.specs.declared.Place.{Place}
 use Rattle.plane.specs.Words.{bit}
-use Rattle.machine.specs.Places.{test}
+use Rattle.places.specs.Places.{test}
 use Rattle.covering.specs.declared.Words.{Words}
 use Rattle.covering.specs.Marks.{Marked}
 

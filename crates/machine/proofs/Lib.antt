@@ -1,3 +1,2 @@
-pub mod Placed
-pub mod Steps
-pub mod PlaceLaws
+pub mod Turns
+pub mod Handing

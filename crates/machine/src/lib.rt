@@ -1,163 +1,231 @@
-// The machine between pieces: four places in order of F1 with the idle ones last, and the counts. While a piece goes through, the places stand as columns (crate columns).
+// The machine at work: the flags of a piece go through it block by block, and of each block the edges at which something is to be done.
+// The array of the four places is changed where it stands; one place goes by value into a function and comes back.
+ghost use Prim.Native.Nat.{_+_, _<_};
 ghost use mathlib.Core.Path.{_≡_};
-ghost use mathlib.Core.Bool.{_||_, cond};
-ghost use Rattle.replies.specs.Sums.{wrapped};
-ghost use Rattle.rules.specs.Machine.{start, openedBy, tally};
-ghost use Rattle.machine.specs.Places.{any3 as any3′, noPlaces, machineOf};
-use replies::military;
-use replies::pick;
-use replies::plus;
-use replies::wide;
-use rules::Counts;
-use rules::Estimate;
-use rules::Fate;
+ghost use mathlib.Core.List.{[], _∷_};
+ghost use lib.ListN.{length};
+ghost use Rattle.places.specs.Places.{idle};
+ghost use Rattle.covering.specs.Marks.{four};
+ghost use Rattle.blocks.specs.Feeding.{BlocksPost};
+use blocks::Progress;
+use blocks::block_length;
+use blocks::none_due;
+use blocks::packed;
+use blocks::pulse_at;
+use blocks::stays;
+use blocks::wanted;
+use covering::any_word;
+use covering::behind;
+use covering::covers_of;
+use covering::risks_of;
+use covering::twice;
+use covering::which;
+use covering::with_word;
+use covering::without_word;
+use front::span::above;
+use front::span::apart;
+use front::span::framed;
+use front::span::second_main;
+use front::span::span_of;
+use front::span::tick_of;
+use front::span::top;
+use front::words::advance;
+use masks::open_cover;
+use masks::open_phantom;
+use outcomes::counted;
+use outcomes::firsts_of;
+use outcomes::free;
+use outcomes::is_busy;
+use outcomes::is_over;
+use outcomes::opened;
+use outcomes::opens;
+use outcomes::outcome_of;
+use outcomes::removed_by;
+use places::any3;
+use plane::lowest;
+use plane::marked;
+use plane::without_lowest;
+use records::hand_one;
 use rules::Machine;
-use rules::Marks;
 use rules::Place;
 use rules::Places;
-use rules::Pulse;
-use rules::Reference;
-use rules::Reply;
 use rules::Slot;
-use rules::Word;
+use rules::Tick;
+use settling::heard;
+use settling::speaks;
+use settling::voices_of;
 
-// ---- the four places
+// ---- the four places as an array, and back
 
-pub fn any3(a: bool, b: bool, c: bool) -> bool
-    ensures { λ r. ⌜ r ≡ any3′ a b c ⌝ }
+// A place as it is, for another place in the array.
+fn kept(p: Place) -> Place
+    ensures { λ r. ⌜ r ≡ p ⌝ }
 {
-    a | (b | c)
+    p
 }
 
-pub fn any4(a: bool, b: bool, c: bool, d: bool) -> bool
-    ensures { λ r. ⌜ r ≡ (a || any3′ b c d) ⌝ }
+fn idle_place() -> Place
+    ensures { λ r. ⌜ r ≡ idle ⌝ }
 {
-    a | (b | (c | d))
+    Place { slot: Slot::Idle }
 }
 
-pub fn no_places() -> Places
-    ensures { λ x. ⌜ x ≡ noPlaces ⌝ }
+fn array_of(p: Places) -> [Place; 4]
+    ensures { λ r. ⌜ r ≡ p .p0 ∷ (p .p1 ∷ (p .p2 ∷ (p .p3 ∷ []))) ⌝ }
+{
+    let p0 = p.p0;
+    let p1 = p.p1;
+    let p2 = p.p2;
+    let p3 = p.p3;
+    [p0, p1, p2, p3]
+}
+
+fn places_of(p: [Place; 4]) -> Places
+    ensures { λ r. ⌜ r ≡ four p ⌝ }
 {
     Places {
-        p0: Place { slot: Slot::Idle },
-        p1: Place { slot: Slot::Idle },
-        p2: Place { slot: Slot::Idle },
-        p3: Place { slot: Slot::Idle },
+        p0: p[0],
+        p1: p[1],
+        p2: p[2],
+        p3: p[3],
     }
 }
 
-// ---- brackets
-
-pub fn pick_pulse(c: bool, a: Pulse, b: Pulse) -> Pulse
-    ensures { λ r. ⌜ r ≡ cond c a b ⌝ }
+// The progress after the flags of a piece, which begins once `base` ticks are taken. At each visit replies that are over are handed out, then the bracket is
+// tried, if one stands there, then the edge goes to the places that cover it. Only a bracket opens a reply or removes one; behind it the ticks to visit are
+// found anew. `from` shows that the visits end: the edges before tick `from` of the span are taken.
+pub fn work(
+    o: Progress,
+    recent: &[u8; 256],
+    base: u32,
+    flags: &[u8],
+    values: &[u8],
+    out: &mut [u8],
+) -> Progress
+    requires { ⌜ base + length (now flags) < 65000 ⌝ }
+    ensures { λ y. ⌜ BlocksPost o (now (recent .entry)) base (now (flags .entry)) (now (values .entry)) (now (out .entry)) y (now (out .exit)) ⌝ }
 {
-    if c {
-        return a;
+    let n = flags.len();
+    let mut front = o.front;
+    let m = o.machine;
+    let mut places = array_of(m.places);
+    let mut counts = m.counts;
+    let mut at = o.at;
+    let mut done: usize = 0;
+    while done < n {
+        let r = block_length(n - done);
+        let x = packed(flags, done, r);
+        done += r;
+        let t = base + done as u32;
+        if stays(front, places[0], x, t) {
+            continue;
+        }
+        front = advance(front, x, r as u32);
+        let s = span_of(front);
+        let due = top(s.due, r as u32);
+        if (due == 0) & none_due(places[0], t) {
+            continue;
+        }
+        let mut on = covers_of(places, t);
+        let mut risk = risks_of(places, t);
+        let mut todo = wanted(s, on, due);
+        let mut from = 64 - r as u32;
+        while todo != 0 {
+            let i = lowest(todo);
+            let u = Tick(tick_of(t, i));
+            if is_over(places[0], u) {
+                at = hand_one(places[0], u, out, at);
+                places = [
+                    kept(places[1]),
+                    kept(places[2]),
+                    kept(places[3]),
+                    idle_place(),
+                ];
+                on = without_word(on, 0);
+                risk = without_word(risk, 0);
+                continue;
+            }
+            let e = pulse_at(recent, base, values, u, marked(s.main, i));
+            if framed(s, i) {
+                let f2 = pulse_at(
+                    recent,
+                    base,
+                    values,
+                    Tick(u.0 + apart(s, i)),
+                    second_main(s, i),
+                );
+                let f = firsts_of(places);
+                let y = outcome_of(f, on, risk, i, e, f2, is_busy(f));
+                counts = counted(y, counts);
+                let k = removed_by(y);
+                if k < 4 {
+                    places = [
+                        kept(places[behind(0, k)]),
+                        kept(places[behind(1, k)]),
+                        kept(places[behind(2, k)]),
+                        idle_place(),
+                    ];
+                    on = without_word(on, k);
+                    risk = without_word(risk, k);
+                    continue;
+                }
+                if opens(y) {
+                    let reply = opened(f, on, i, e, f2);
+                    let marks = reply.marks;
+                    let j = free(f);
+                    places[j] = Place {
+                        slot: Slot::Open(reply),
+                    };
+                    on = with_word(on, j, open_cover(i));
+                    risk = with_word(risk, j, open_phantom(i, marks.suspect));
+                }
+                todo = wanted(s, on, above(due, i));
+            } else {
+                todo = without_lowest(todo);
+            }
+            if marked(twice(on), i) {
+                let v = voices_of(places, on, i, e.value);
+                if marked(on.a, i) {
+                    let q = places[0];
+                    places[0] = heard(q, e, v.a, any3(v.b, v.c, v.d));
+                }
+                if marked(on.b, i) {
+                    let q = places[1];
+                    places[1] = heard(q, e, v.b, any3(v.a, v.c, v.d));
+                }
+                if marked(on.c, i) {
+                    let q = places[2];
+                    places[2] = heard(q, e, v.c, any3(v.a, v.b, v.d));
+                }
+                if marked(on.d, i) {
+                    let q = places[3];
+                    places[3] = heard(q, e, v.d, any3(v.a, v.b, v.c));
+                }
+            } else {
+                if marked(any_word(on), i) {
+                    let j = which(on, i);
+                    let q = places[j];
+                    places[j] = heard(q, e, speaks(true, q, e.value), false);
+                }
+            }
+            from = i + 1;
+        }
+        while !none_due(places[0], t) {
+            at = hand_one(places[0], Tick(t - 179), out, at);
+            places = [
+                kept(places[1]),
+                kept(places[2]),
+                kept(places[3]),
+                idle_place(),
+            ];
+        }
     }
-    b
-}
-
-pub fn opened_by(covered: bool, suspect: bool, military: bool, e: Pulse, f2: Pulse) -> Reply
-    ensures { λ r. ⌜ r ≡ openedBy covered suspect military e f2 ⌝ }
-{
-    let p = pick_pulse(covered, f2, e);
-    let v = p.value;
-    let s = wide(v);
-    let b = pick(covered, 8192, 0);
-    let n = pick(covered & !f2.main, 8192, 0);
-    let f1 = e.tick;
-    Reply {
-        f1,
-        marks: Marks {
-            suspect,
-            military,
-            second: covered,
-            main: p.main,
+    Progress {
+        front,
+        machine: Machine {
+            places: places_of(places),
+            counts,
         },
-        word: Word {
-            settled: b,
-            code: b,
-            unsure: n,
-        },
-        reference: Reference {
-            estimate: Estimate::Lone(v as f64),
-            n: 1,
-            s,
-        },
-    }
-}
-
-pub fn tallied(fate: Fate, p: u16, c: Counts) -> Counts
-    ensures { λ x. ⌜ x ≡ tally wrapped fate p c ⌝ }
-{
-    let found = plus(c.found, 1);
-    match fate {
-        Fate::Sidelobe => {
-            let sidelobe = plus(c.sidelobe, 1);
-            Counts {
-                found,
-                opened: c.opened,
-                sidelobe,
-                garbled: c.garbled,
-                lost: c.lost,
-                phantoms: c.phantoms,
-            }
-        }
-        Fate::Garbled => {
-            let garbled = plus(c.garbled, 1);
-            let phantoms = plus(c.phantoms, p);
-            Counts {
-                found,
-                opened: c.opened,
-                sidelobe: c.sidelobe,
-                garbled,
-                lost: c.lost,
-                phantoms,
-            }
-        }
-        Fate::Lost => {
-            let lost = plus(c.lost, 1);
-            let phantoms = plus(c.phantoms, p);
-            Counts {
-                found,
-                opened: c.opened,
-                sidelobe: c.sidelobe,
-                garbled: c.garbled,
-                lost,
-                phantoms,
-            }
-        }
-        Fate::Opens => {
-            let opened = plus(c.opened, 1);
-            let phantoms = plus(c.phantoms, p);
-            Counts {
-                found,
-                opened,
-                sidelobe: c.sidelobe,
-                garbled: c.garbled,
-                lost: c.lost,
-                phantoms,
-            }
-        }
-    }
-}
-
-// ---- the machine
-
-// The machine with no open reply, and nothing counted.
-pub fn empty_machine() -> Machine
-    ensures { λ x. ⌜ x ≡ machineOf start ⌝ }
-{
-    let places = no_places();
-    Machine {
-        places,
-        counts: Counts {
-            found: 0,
-            opened: 0,
-            sidelobe: 0,
-            garbled: 0,
-            lost: 0,
-            phantoms: 0,
-        },
+        at,
     }
 }

@@ -17,7 +17,7 @@ use Rattle.rules.specs.declared.Pulse.{Pulse}
 use Rattle.rules.specs.Replies.{f1, position, isPosition, isInside, covers, inside, ended, military}
 use Rattle.rules.specs.Machine.{openedBy}
 use Rattle.replies.proofs.ReplyLaws.{within}
-use Rattle.machine.specs.Places.{test, testSlot, always, idle, any3, openedIn}
+use Rattle.places.specs.Places.{test, testSlot, always, idle, any3, openedIn}
 use Rattle.covering.specs.declared.Words.{Words}
 use Rattle.covering.specs.Marks.{AnyWord}
 use Rattle.covering.proofs.Marking.{any-marked}

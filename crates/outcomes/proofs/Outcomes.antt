@@ -13,7 +13,7 @@ use Rattle.rules.specs.declared.Counts.{Counts}
 use Rattle.rules.specs.Replies.{covers, isPhantom}
 use Rattle.rules.specs.Machine.{fateBy, tally}
 use Rattle.replies.specs.Sums.{wrapped}
-use Rattle.machine.specs.Places.{test, always, idle, any3, anyIn, fateIn}
+use Rattle.places.specs.Places.{test, always, idle, any3, anyIn, fateIn}
 use Rattle.plane.specs.Words.{bit}
 use Rattle.covering.specs.declared.Words.{Words}
 use Rattle.covering.specs.Marks.{four, Marked, AnyWord, lastOf, lastIn, lastOn}

@@ -11,7 +11,7 @@ use Rattle.rules.specs.declared.Slot.the-variants.{Idle, Open}
 use Rattle.rules.specs.declared.Place.{Place}
 use Rattle.rules.specs.declared.Pulse.{Pulse}
 use Rattle.rules.specs.Replies.{f1, covers, inside}
-use Rattle.machine.specs.Places.{test, always, idle, anyIn, openedIn}
+use Rattle.places.specs.Places.{test, always, idle, anyIn, openedIn}
 use Rattle.covering.specs.declared.Words.{Words}
 use Rattle.covering.specs.Marks.{four, Marked}
 use Rattle.outcomes.specs.declared.Firsts.{Firsts}

@@ -12,7 +12,7 @@ use Rattle.rules.specs.declared.Fate.the-variants.{Sidelobe, Garbled, Lost, Ope
 use Rattle.rules.specs.Replies.{covers, isPhantom}
 use Rattle.rules.specs.Machine.{tally}
 use Rattle.replies.specs.Sums.{wrapped}
-use Rattle.machine.specs.Places.{anyIn}
+use Rattle.places.specs.Places.{anyIn}
 use Rattle.covering.specs.declared.Words.{Words}
 use Rattle.covering.specs.Marks.{four, Marked, lastIn, lastOn}
 use Rattle.outcomes.specs.declared.Firsts.{Firsts}

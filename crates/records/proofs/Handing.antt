@@ -14,7 +14,7 @@ use Rattle.rules.specs.Machine.{State, retired}
 use Rattle.rules.specs.Records.{recordOf, records, replies}
 use Rattle.rules.proofs.ListLaws.{all-map, filter-none, reject-none}
 use Rattle.rules.proofs.Order.{Rising, rising-all, Ordered, ended-earlier}
-use Rattle.machine.specs.Places.{test, placed}
+use Rattle.places.specs.Places.{test, placed}
 use Rattle.rules.specs.Buffers.{over-at}
 use Rattle.records.specs.Post.{dueSlot, HandedPost, InOrder, Queue}
 use Rattle.rules.proofs.Buffers.{over-at-nil}

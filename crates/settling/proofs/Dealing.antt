@@ -17,8 +17,8 @@ use Rattle.rules.specs.Settings.{standard}
 use Rattle.rules.specs.Replies.{Verdict, f1, position, isPosition, near, level, agrees, covers, verdict, takes, bitOf, heardAt}
 use Rattle.rules.proofs.Truth.{impossible}
 use Rattle.replies.specs.Sums.{wrapped}
-use Rattle.machine.specs.Places.{test, testSlot, idle, any3, positionSlot, positionIn, hearSlotAt, dealt}
-use Rattle.machine.proofs.PlaceLaws.{covers-in, deal-by}
+use Rattle.places.specs.Places.{test, testSlot, idle, any3, positionSlot, positionIn, hearSlotAt, dealt}
+use Rattle.places.proofs.PlaceLaws.{covers-in, deal-by}
 use Rattle.plane.specs.Words.{bit}
 use Rattle.covering.specs.declared.Words.{Words}
 use Rattle.covering.specs.Marks.{four, Marked, AnyWord, twoOf, TwiceWord, whichOf}

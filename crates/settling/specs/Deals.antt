@@ -9,7 +9,7 @@ use Rattle.rules.specs.declared.Pulse.{Pulse}
 use Rattle.rules.specs.Replies.{verdict, agrees, covers}
 use Rattle.rules.specs.Settings.{standard}
 use Rattle.replies.specs.Sums.{wrapped}
-use Rattle.machine.specs.Places.{test, idle, any3, positionIn, hearAt, dealt}
+use Rattle.places.specs.Places.{test, idle, any3, positionIn, hearAt, dealt}
 use Rattle.plane.specs.Words.{bit}
 use Rattle.covering.specs.declared.Words.{Words}
 use Rattle.covering.specs.Marks.{four, Marked}

@@ -6,7 +6,7 @@ ghost use lib.Dec.{eqb};
 ghost use Rattle.rules.specs.Replies.{position, verdict, covers, agrees, average as average′};
 ghost use Rattle.rules.specs.Settings.{standard};
 ghost use Rattle.replies.specs.Sums.{wrapped};
-ghost use Rattle.machine.specs.Places.{test};
+ghost use Rattle.places.specs.Places.{test};
 ghost use Rattle.masks.specs.Masks.{coversFrom};
 ghost use Rattle.settling.specs.Hearing.{placeOf, freshIn, kindOf, estimateOf, hearBy};
 ghost use Rattle.settling.specs.Deals.{hearing, voicesIn};

@@ -7,7 +7,7 @@ use Rattle.rules.specs.declared.Machine.{Machine}
 use Rattle.rules.specs.Samples.{Trace}
 use Rattle.rules.specs.Machine.{start, after}
 use Rattle.rules.specs.Calls.{Answer as Verdict, accepted, refused, openAnswer}
-use Rattle.machine.specs.Places.{machineOf}
+use Rattle.places.specs.Places.{machineOf}
 use Rattle.sweep.specs.declared.Answer.{Answer}
 use Rattle.sweep.specs.declared.Answer.the-variants.{Accepted, Refused}
 use Rattle.sweep.specs.declared.Processor.{Processor}

@@ -19,7 +19,7 @@ use Rattle.rules.specs.Machine.{final, State, after}
 use Rattle.rules.specs.Records.{records, totals, replies}
 use Rattle.rules.specs.Calls.{Answer as Verdict, accepted, refused, takeAnswer, closeAnswer, fresh, rest, silence}
 use Rattle.rules.proofs.PastEnd.{rest-silence, past-end, after-silence}
-use Rattle.machine.specs.Places.{machineOf}
+use Rattle.places.specs.Places.{machineOf}
 use Rattle.rules.specs.Buffers.{over, over-at}
 use Rattle.sweep.specs.declared.Answer.{Answer}
 use Rattle.sweep.specs.declared.Answer.the-variants.{Accepted, Refused}

@@ -29,10 +29,11 @@ use Rattle.sweep.specs.State.{running, runningProcessor, processorOf, Ma
 use Rattle.front.specs.Words.{recentOf}
 use Rattle.front.specs.Post.{blank}
 use Rattle.blocks.specs.Steps.{noneDue, Fed}
-use Rattle.pieces.specs.Feeding.{BlocksPost}
+use Rattle.blocks.specs.Feeding.{BlocksPost}
 use Rattle.sweep.specs.Post.{Rests, quiet}
 use Rattle.blocks.proofs.Blank.{none-due-before, stays-law}
-use Rattle.pieces.proofs.Pieces.{Feeding, feed-start, feed-next, feed-end, enters-piece}
+use Rattle.blocks.proofs.Feeding.{Feeding, feed-start, feed-next, feed-end}
+use Rattle.pieces.proofs.Pieces.{enters-piece}
 use Rattle.sweep.proofs.Operations.{mode-of, azimuth-of, taken-of, front-of, recent-of, machine-of}
 
 -- ---- one tick

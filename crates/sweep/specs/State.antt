@@ -9,7 +9,7 @@ use Rattle.rules.specs.Lists.{All}
 use Rattle.rules.specs.Samples.{Trace, sweepLimit}
 use Rattle.rules.specs.Edges.{edgeAt}
 use Rattle.rules.specs.Machine.{after}
-use Rattle.machine.specs.Places.{machineOf}
+use Rattle.places.specs.Places.{machineOf}
 use Rattle.sweep.specs.declared.Processor.{Processor}
 use Rattle.front.specs.Words.{frontOf, recentOf}
 

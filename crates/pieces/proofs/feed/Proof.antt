@@ -12,16 +12,16 @@ returns c =
     let a = c .before .before .before .before .args in
     feed-past (a .o) (a .recent .now) (a .base) (a .flags .now) (a .values .now) (a .out .now) (c .if1 .taken)
 
-feed-blocks-requires : tie.Need-feed-blocks-requires
-feed-blocks-requires c κs = omega (arith, c .before .if1 .left)
+work-requires : tie.Need-work-requires
+work-requires c κs = omega (arith, c .before .if1 .left)
 
 same-length : tie.Need-same-length
-same-length c = c .before .before .feed-blocks .ensures .same
+same-length c = c .before .before .work .ensures .same
 
 returns-2 : tie.Need-returns-2
 returns-2 c =
     let a = c .before .before .before .before .before .before .before .before .args in
-    feed-within (a .o) (a .recent .now) (a .base) (a .flags .now) (a .values .now) (a .out .now) _ _ (c .before .before .before .before .if1 .left) (c .before .before .feed-blocks .ensures)
+    feed-within (a .o) (a .recent .now) (a .base) (a .flags .now) (a .values .now) (a .out .now) _ _ (c .before .before .before .before .if1 .left) (c .before .before .work .ensures)
 
 pub feed-spec : {M : Type 1} → statement M
-feed-spec = tie.close (tie.spec add-if1 returns feed-blocks-requires same-length returns-2)
+feed-spec = tie.close (tie.spec add-if1 returns work-requires same-length returns-2)

@@ -1,5 +1,5 @@
 -- `settling::voices_of` meets its contract.
-use Rattle.machine.specs.Places.{test, idle}
+use Rattle.places.specs.Places.{test, idle}
 use Rattle.rules.specs.Replies.{agrees}
 use Rattle.rules.specs.Settings.{standard}
 use lib.ListN.{getD}

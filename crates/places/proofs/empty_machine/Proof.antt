@@ -1,7 +1,7 @@
 -- `machine::empty_machine` meets its contract.
 use borrow.Author.Needs.{needs}
-use Rattle.machine.proofs.empty_machine.Statement.{statement}
-use Rattle.machine.proofs.empty_machine.Tie as tie
+use Rattle.places.proofs.empty_machine.Statement.{statement}
+use Rattle.places.proofs.empty_machine.Tie as tie
 
 no-places-requires : tie.Need-no-places-requires
 no-places-requires c κs = search needs

@@ -22,7 +22,7 @@ use Rattle.rules.specs.Machine.{State, tally, fate, opened, liveAfter, bracket,
 use Rattle.rules.proofs.Truth.{or-left, or-right}
 use Rattle.rules.proofs.ListLaws.{reject-short}
 use Rattle.rules.proofs.Order.{bracket-short}
-use Rattle.machine.specs.Places.{test, always, anyIn, countIn, dealt, noPlaces, pushed, siftSlot, sifted, withoutBy, withoutIn, openedIn, fateIn, placesAfter, bracketOn, bracketIf, stepOn, placed, machineOf}
+use Rattle.places.specs.Places.{test, always, anyIn, countIn, dealt, noPlaces, pushed, siftSlot, sifted, withoutBy, withoutIn, openedIn, fateIn, placesAfter, bracketOn, bracketIf, stepOn, placed, machineOf}
 
 pub any-placed : (p : Reply → Bool) (l : List Reply) → length l ≤ 4 → anyIn p (placed l) ≡ any p l
 any-placed p [] h = refl

@@ -1,7 +1,7 @@
 -- `machine::any4` meets its contract.
-use Rattle.machine.proofs.PlaceLaws.{any-four}
-use Rattle.machine.proofs.any4.Statement.{statement}
-use Rattle.machine.proofs.any4.Tie as tie
+use Rattle.places.proofs.PlaceLaws.{any-four}
+use Rattle.places.proofs.any4.Statement.{statement}
+use Rattle.places.proofs.any4.Tie as tie
 
 returns : tie.Need-returns
 returns c = any-four (c .args .a) (c .args .b) (c .args .c) (c .args .d)

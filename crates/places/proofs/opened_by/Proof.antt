@@ -1,8 +1,8 @@
 -- `machine::opened_by` meets its contract.
 use borrow.Author.Needs.{needs}
 use Rattle.rules.specs.Machine.{openedBy}
-use Rattle.machine.proofs.opened_by.Statement.{statement}
-use Rattle.machine.proofs.opened_by.Tie as tie
+use Rattle.places.proofs.opened_by.Statement.{statement}
+use Rattle.places.proofs.opened_by.Tie as tie
 
 pick-pulse-requires : tie.Need-pick-pulse-requires
 pick-pulse-requires c κs = search needs

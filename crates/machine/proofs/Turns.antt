@@ -12,7 +12,7 @@ use Rattle.rules.specs.declared.Slot.{Slot}
 use Rattle.rules.specs.declared.Slot.the-variants.{Idle, Open}
 use Rattle.rules.specs.declared.Place.{Place}
 use Rattle.rules.proofs.Truth.{impossible}
-use Rattle.machine.specs.Places.{test, testSlot, always, idle}
+use Rattle.places.specs.Places.{test, testSlot, always, idle}
 use Rattle.plane.specs.Words.{bit}
 use Rattle.plane.proofs.BitLaws.{zero-bit}
 use Rattle.covering.specs.declared.Words.{Words}

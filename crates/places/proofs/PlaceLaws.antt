@@ -13,8 +13,8 @@ use Rattle.rules.specs.Settings.{Settings}
 use Rattle.rules.specs.Samples.{bit}
 use Rattle.rules.specs.Replies.{f1, position, isPosition, covers, agrees, speaks, verdict, bitOf, takes, heardAt, hear}
 use Rattle.rules.proofs.Truth.{or-left, or-right}
-use Rattle.machine.specs.Places.{test, testSlot, anyIn, positionSlot, positionIn, reaches, hearSlotAt, hearAt, hearSlot, hearIn, any3, dealt}
-use Rattle.machine.proofs.Steps.{hear-away}
+use Rattle.places.specs.Places.{test, testSlot, anyIn, positionSlot, positionIn, reaches, hearSlotAt, hearAt, hearSlot, hearIn, any3, dealt}
+use Rattle.places.proofs.Steps.{hear-away}
 
 -- ---- truth values
 

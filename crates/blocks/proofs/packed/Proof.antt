@@ -1,7 +1,7 @@
-use Rattle.pieces.proofs.Pieces.{packed-all, packed-bare}
+use Rattle.blocks.proofs.Feeding.{packed-all, packed-bare}
 use borrow.Author.Needs.{needs}
-use Rattle.pieces.proofs.packed.Statement.{statement}
-use Rattle.pieces.proofs.packed.Tie as tie
+use Rattle.blocks.proofs.packed.Statement.{statement}
+use Rattle.blocks.proofs.packed.Tie as tie
 
 bare-block-requires : tie.Need-bare-block-requires
 bare-block-requires c κs = search needs

@@ -1,7 +1,7 @@
 -- `machine::tallied` meets its contract.
 use borrow.Author.Needs.{needs}
-use Rattle.machine.proofs.tallied.Statement.{statement}
-use Rattle.machine.proofs.tallied.Tie as tie
+use Rattle.places.proofs.tallied.Statement.{statement}
+use Rattle.places.proofs.tallied.Tie as tie
 
 plus-requires : tie.Need-plus-requires
 plus-requires c κs = search needs

@@ -1,4 +1,4 @@
--- `feed_blocks` takes a piece block by block, and of each block the ticks to visit, lowest first.
+-- `work` takes a piece block by block, and of each block the ticks to visit, lowest first.
 use borrow.Author.Needs.{needs}
 use Prim.Native.Nat.{_-_}
 use native.Mathlib.Omega.{arith}
@@ -10,30 +10,30 @@ use borrow.Author.Tests.{not-true, not-false}
 use Rattle.rules.specs.declared.Place.{Place}
 use Rattle.rules.specs.declared.Tick.{Tick}
 use Rattle.rules.specs.Replies.{ended}
-use Rattle.machine.specs.Places.{test, idle}
+use Rattle.places.specs.Places.{test, idle}
 use Rattle.covering.proofs.Starting.{all-marked}
 use Rattle.blocks.proofs.Blank.{stays-law}
 use Rattle.blocks.proofs.BlockLaws.{block-law}
 use Rattle.blocks.specs.Leaving.{machineIn}
 use Rattle.blocks.proofs.Working.{Working, work-start, work-over, work-less, work-taken, end-start, end-none, end-works, first-from}
-use Rattle.pieces.proofs.Pieces.{Feeding, feed-start, feed-next, feed-end}
-use Rattle.pieces.proofs.Turns.{openCount, turnsLeft, turn-taken, turn-over, turn-less, hand-less, four-places}
+use Rattle.blocks.proofs.Feeding.{Feeding, feed-start, feed-next, feed-end}
+use Rattle.machine.proofs.Turns.{openCount, turnsLeft, turn-taken, turn-over, turn-less, hand-less, four-places}
 use Prim.Native.Nat.{ℕ, _+_}
 use borrow.Author.Tests.{eqb-true}
 use Rattle.rules.specs.declared.Places.{Places}
 use Rattle.rules.specs.declared.Pulse.{Pulse}
-use Rattle.machine.specs.Places.{any3}
+use Rattle.places.specs.Places.{any3}
 use Rattle.front.specs.Post.{bracketIn}
 use Rattle.settling.proofs.Dealing.{either, turns-did, turns-not, Dealt, deals-four, deals-one, deals-none}
 use Rattle.blocks.specs.declared.Progress.{Progress}
 use Rattle.blocks.proofs.Blank.{all-three, both, due-over}
 use Rattle.blocks.proofs.Taking.{framed-shut, framed-opens, framed-as}
 use Rattle.blocks.proofs.Standing.{pulse-as, second-as, Stood, stood-plain, stood-framed}
-use Rattle.pieces.specs.Feeding.{BlocksPost}
+use Rattle.blocks.specs.Feeding.{BlocksPost}
 use lib.ListN.{set}
-use Rattle.pieces.proofs.Handing.{Hands, hands-none, hands-more}
-use Rattle.pieces.proofs.feed_blocks.Statement.{statement}
-use Rattle.pieces.proofs.feed_blocks.Tie as tie
+use Rattle.machine.proofs.Handing.{Hands, hands-none, hands-more}
+use Rattle.machine.proofs.work.Statement.{statement}
+use Rattle.machine.proofs.work.Tie as tie
 
 abbrev Inv-loop2 : tie.InvT-loop2
 Inv-loop2 recent base flags values out₀ n front places₀ counts₀ at₀ done r t s due on₀ risk₀ todo₀ from₀ out places counts at on risk todo from =
@@ -65,9 +65,10 @@ array-of-requires c κs = search needs
 loop-holds : tie.Need-loop-holds Inv-loop2 μ-loop2 Inv-loop3 μ-loop3 Inv-loop μ-loop
 loop-holds c =
     let array-of = c .before .array-of in
-    let args = c .before .before .before .before .before .before .before .args in
-    (ap (length {A = Place}) (array-of .ensures),
-    feed-start (record { front = args .o .front; machine = machineIn (array-of .result) (args .o .machine .counts); at = args .o .at }) (args .recent .now) (args .base) (args .flags .now) (args .values .now) (args .out .now))
+    let args = c .before .before .before .before .before .before .before .args in (
+      ap (length {A = Place}) (array-of .ensures),
+      feed-start (record { front = args .o .front; machine = machineIn (array-of .result) (args .o .machine .counts); at = args .o .at }) (args .recent .now) (args .base) (args .flags .now) (args .values .now) (args .out .now),
+    )
 
 sub-block-length : tie.Need-sub-block-length Inv-loop2 μ-loop2 Inv-loop3 μ-loop3 Inv-loop μ-loop
 sub-block-length c = search needs
@@ -113,12 +114,13 @@ loop-again c =
     let array-of = c .before .before .before .before .before .before .before .before .array-of in
     let args = c .before .before .before .before .before .before .before .before .before .before .before .before .before .before .args in
     let o : Progress = record { front = loop .front; machine = machineIn (loop .places) (loop .counts); at = loop .at } in
-    let s = all-three _ _ _ _ (stays .ensures) (if1 .taken) in
-    (loop .inv .0,
-    feed-next (record { front = args .o .front; machine = machineIn (array-of .result) (args .o .machine .counts); at = args .o .at }) (args .recent .now) (args .base) (args .flags .now) (args .values .now) (args .out .now)
-    (loop .out) o (loop .done) (block-length .result) _ (packed .result) o (loop .out) (omega (arith, block-length .ensures .1 .1 .0, test1 .taken)) refl (packed .ensures)
-    (stays-law o (packed .result) (block-length .result) _ (args .recent .now) (args .base) (args .values .now) (loop .out) (block-length .ensures .1 .0) (s .0) (s .1) (s .2))
-    (loop .inv .1))
+    let s = all-three _ _ _ _ (stays .ensures) (if1 .taken) in (
+      loop .inv .0,
+      feed-next (record { front = args .o .front; machine = machineIn (array-of .result) (args .o .machine .counts); at = args .o .at }) (args .recent .now) (args .base) (args .flags .now) (args .values .now) (args .out .now)
+          (loop .out) o (loop .done) (block-length .result) _ (packed .result) o (loop .out) (omega (arith, block-length .ensures .1 .1 .0, test1 .taken)) refl (packed .ensures)
+          (stays-law o (packed .result) (block-length .result) _ (args .recent .now) (args .base) (args .values .now) (loop .out) (block-length .ensures .1 .0) (s .0) (s .1) (s .2))
+          (loop .inv .1),
+    )
 
 cast-advance : tie.Need-cast-advance Inv-loop2 μ-loop2 Inv-loop3 μ-loop3 Inv-loop μ-loop
 cast-advance c = search needs
@@ -170,15 +172,16 @@ loop-again-2 c =
     let args = c .before .before .before .before .before .before .before .before .before .before .before .before .before .before .before .before .before .before .before .before .args in
     let o : Progress = record { front = loop .front; machine = machineIn (loop .places) (loop .counts); at = loop .at } in
     let m = machineIn (loop .places) (loop .counts) in
-    let s = both _ _ (if2 .taken) in
-    (loop .inv .0,
-    feed-next (record { front = args .o .front; machine = machineIn (array-of .result) (args .o .machine .counts); at = args .o .at }) (args .recent .now) (args .base) (args .flags .now) (args .values .now) (args .out .now)
-    (loop .out) o (loop .done) (block-length .result) _ (packed .result) (record { front = advance .result; machine = m; at = loop .at }) (loop .out) (omega (arith, block-length .ensures .1 .1 .0, test1 .taken)) refl (packed .ensures)
-    (block-law o (packed .result) (block-length .result) _ (args .recent .now) (args .base) (args .values .now) (loop .out) (advance .result) (span-of .result) m (loop .at) (loop .out) (advance .ensures) (span-of .ensures)
-    (end-works m (span-of .result) (block-length .result) _ (args .recent .now) (args .base) (args .values .now) (loop .at) (loop .out) (loop .out) (loop .places) (loop .counts) (loop .at)
-    (end-none m (span-of .result) (block-length .result) _ (args .recent .now) (args .base) (args .values .now) (loop .at) (loop .out) (loop .places) (loop .counts) (top .result) refl (block-length .ensures .1 .0) (top .ensures) (eqb-true _ 0 (s .0)))
-    (sym (none-due .ensures) ∙ s .1)))
-    (loop .inv .1))
+    let s = both _ _ (if2 .taken) in (
+      loop .inv .0,
+      feed-next (record { front = args .o .front; machine = machineIn (array-of .result) (args .o .machine .counts); at = args .o .at }) (args .recent .now) (args .base) (args .flags .now) (args .values .now) (args .out .now)
+          (loop .out) o (loop .done) (block-length .result) _ (packed .result) (record { front = advance .result; machine = m; at = loop .at }) (loop .out) (omega (arith, block-length .ensures .1 .1 .0, test1 .taken)) refl (packed .ensures)
+          (block-law o (packed .result) (block-length .result) _ (args .recent .now) (args .base) (args .values .now) (loop .out) (advance .result) (span-of .result) m (loop .at) (loop .out) (advance .ensures) (span-of .ensures)
+          (end-works m (span-of .result) (block-length .result) _ (args .recent .now) (args .base) (args .values .now) (loop .at) (loop .out) (loop .out) (loop .places) (loop .counts) (loop .at)
+          (end-none m (span-of .result) (block-length .result) _ (args .recent .now) (args .base) (args .values .now) (loop .at) (loop .out) (loop .places) (loop .counts) (top .result) refl (block-length .ensures .1 .0) (top .ensures) (eqb-true _ 0 (s .0)))
+          (sym (none-due .ensures) ∙ s .1)))
+          (loop .inv .1),
+    )
 
 covers-of-requires :
     tie.Need-covers-of-requires Inv-loop2 μ-loop2 Inv-loop3 μ-loop3 Inv-loop μ-loop
@@ -732,15 +735,16 @@ loop-again-3 c =
     let array-of = c .before .before .before .before .before .before .before .before .before .before .before .before .before .before .before .before .before .before .before .before .before .before .before .array-of in
     let args = c .before .before .before .before .before .before .before .before .before .before .before .before .before .before .before .before .before .before .before .before .before .before .before .before .before .before .before .before .before .args in
     let o : Progress = record { front = loop .front; machine = machineIn (loop .places) (loop .counts); at = loop .at } in
-    let m = machineIn (loop3 .places) (loop2 .counts) in
-    (loop3 .inv .size (loop2 .inv .size),
-    feed-next (record { front = args .o .front; machine = machineIn (array-of .result) (args .o .machine .counts); at = args .o .at }) (args .recent .now) (args .base) (args .flags .now) (args .values .now) (args .out .now)
-    (loop .out) o (loop .done) (block-length .result) _ (packed .result) (record { front = advance .result; machine = m; at = loop3 .at }) (loop3 .out) (omega (arith, block-length .ensures .1 .1 .0, test1 .taken)) refl (packed .ensures)
-    (block-law o (packed .result) (block-length .result) _ (args .recent .now) (args .base) (args .values .now) (loop .out) (advance .result) (span-of .result) m (loop3 .at) (loop3 .out) (advance .ensures) (span-of .ensures)
-    (end-works (machineIn (loop .places) (loop .counts)) (span-of .result) (block-length .result) _ (args .recent .now) (args .base) (args .values .now) (loop .at) (loop .out) (loop3 .out) (loop3 .places) (loop2 .counts) (loop3 .at)
-    (loop3 .inv .ends (machineIn (loop .places) (loop .counts)) (span-of .result) (loop .at) (loop .out) (end-start (machineIn (loop .places) (loop .counts)) (span-of .result) (block-length .result) _ (args .recent .now) (args .base) (args .values .now) (loop .at) (loop .out) (loop2 .out) (loop2 .places) (loop2 .on) (loop2 .risk) (loop2 .counts) (loop2 .at) (loop2 .todo) (loop2 .from) (loop2 .inv) (test2 .left)))
-    (sym (none-due2 .ensures) ∙ not-false _ (if13 .left))))
-    (loop .inv .1))
+    let m = machineIn (loop3 .places) (loop2 .counts) in (
+      loop3 .inv .size (loop2 .inv .size),
+      feed-next (record { front = args .o .front; machine = machineIn (array-of .result) (args .o .machine .counts); at = args .o .at }) (args .recent .now) (args .base) (args .flags .now) (args .values .now) (args .out .now)
+          (loop .out) o (loop .done) (block-length .result) _ (packed .result) (record { front = advance .result; machine = m; at = loop3 .at }) (loop3 .out) (omega (arith, block-length .ensures .1 .1 .0, test1 .taken)) refl (packed .ensures)
+          (block-law o (packed .result) (block-length .result) _ (args .recent .now) (args .base) (args .values .now) (loop .out) (advance .result) (span-of .result) m (loop3 .at) (loop3 .out) (advance .ensures) (span-of .ensures)
+          (end-works (machineIn (loop .places) (loop .counts)) (span-of .result) (block-length .result) _ (args .recent .now) (args .base) (args .values .now) (loop .at) (loop .out) (loop3 .out) (loop3 .places) (loop2 .counts) (loop3 .at)
+          (loop3 .inv .ends (machineIn (loop .places) (loop .counts)) (span-of .result) (loop .at) (loop .out) (end-start (machineIn (loop .places) (loop .counts)) (span-of .result) (block-length .result) _ (args .recent .now) (args .base) (args .values .now) (loop .at) (loop .out) (loop2 .out) (loop2 .places) (loop2 .on) (loop2 .risk) (loop2 .counts) (loop2 .at) (loop2 .todo) (loop2 .from) (loop2 .inv) (test2 .left)))
+          (sym (none-due2 .ensures) ∙ not-false _ (if13 .left))))
+          (loop .inv .1),
+    )
 
 array-copy-out-hand-one-2 :
     tie.Need-array-copy-out-hand-one-2 Inv-loop2 μ-loop2 Inv-loop3 μ-loop3 Inv-loop μ-loop
@@ -831,8 +835,8 @@ returns c =
     subst (λ (l : List Place). BlocksPost (record { front = args .o .front; machine = machineIn l (args .o .machine .counts); at = args .o .at }) (args .recent .now) (args .base) (args .flags .now) (args .values .now) (args .out .now) (record { front = loop .front; machine = record { places = places-of .result; counts = loop .counts }; at = loop .at }) (loop .out)) e
     (subst (λ (f : Places). BlocksPost (record { front = args .o .front; machine = machineIn (array-of .result) (args .o .machine .counts); at = args .o .at }) (args .recent .now) (args .base) (args .flags .now) (args .values .now) (args .out .now) (record { front = loop .front; machine = record { places = f; counts = loop .counts }; at = loop .at }) (loop .out)) (sym (places-of .ensures)) k)
 
-pub feed-blocks-spec : {M : Type 1} → statement M
-feed-blocks-spec =
+pub work-spec : {M : Type 1} → statement M
+work-spec =
     tie.close
     (tie.spec
     Inv-loop2

@@ -2,8 +2,8 @@ use native.Mathlib.Omega.{arith}
 use mathlib.Core.Bool.{cond}
 use mathlib.Core.Path.{sym, ap}
 use borrow.Author.Tests.{lt-ltb, le-ltb}
-use Rattle.pieces.proofs.block_length.Statement.{statement}
-use Rattle.pieces.proofs.block_length.Tie as tie
+use Rattle.blocks.proofs.block_length.Statement.{statement}
+use Rattle.blocks.proofs.block_length.Tie as tie
 
 returns : tie.Need-returns
 returns c =

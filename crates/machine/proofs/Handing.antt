@@ -7,7 +7,7 @@ use lib.ListN.{length, getD}
 use Rattle.rules.specs.declared.Place.{Place}
 use Rattle.rules.specs.declared.Counts.{Counts}
 use Rattle.rules.specs.declared.Machine.{Machine}
-use Rattle.machine.specs.Places.{idle}
+use Rattle.places.specs.Places.{idle}
 use Rattle.records.specs.Post.{dueSlot, HandedPost}
 use Rattle.covering.specs.Marks.{withoutPlace}
 use Rattle.front.specs.declared.span.Span.{Span}

@@ -1,7 +1,7 @@
 -- `machine::any3` meets its contract.
-use Rattle.machine.proofs.PlaceLaws.{any-three}
-use Rattle.machine.proofs.any3.Statement.{statement}
-use Rattle.machine.proofs.any3.Tie as tie
+use Rattle.places.proofs.PlaceLaws.{any-three}
+use Rattle.places.proofs.any3.Statement.{statement}
+use Rattle.places.proofs.any3.Tie as tie
 
 returns : tie.Need-returns
 returns c = any-three (c .args .a) (c .args .b) (c .args .c)

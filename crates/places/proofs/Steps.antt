@@ -23,9 +23,9 @@ use Rattle.rules.proofs.ListLaws.{all-reject, all-append, count-split}
 use Rattle.rules.proofs.Outcomes.{Balanced}
 use Rattle.rules.proofs.Ranges.{cond-most, takes-bit, ranged-opened, in-range}
 use Rattle.replies.specs.Sums.{wrapped}
-use Rattle.machine.specs.Places.{isSettling, reaches, stepOn, machineOf}
-use Rattle.machine.specs.Post.{Small, Fits, EdgePost}
-use Rattle.machine.proofs.Placed.{step-placed}
+use Rattle.places.specs.Places.{isSettling, reaches, stepOn, machineOf}
+use Rattle.places.specs.Post.{Small, Fits, EdgePost}
+use Rattle.places.proofs.Placed.{step-placed}
 
 -- ---- sums
 

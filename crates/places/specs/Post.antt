@@ -12,7 +12,7 @@ use Rattle.rules.specs.Lists.{All}
 use Rattle.rules.specs.Ranges.{Ranged}
 use Rattle.rules.specs.Machine.{State, edgeStep}
 use Rattle.replies.specs.Sums.{wrapped}
-use Rattle.machine.specs.Places.{stepOn, machineOf}
+use Rattle.places.specs.Places.{stepOn, machineOf}
 
 -- the counts are those of a sweep
 pub record Small (c : Counts) : Type 0 where
