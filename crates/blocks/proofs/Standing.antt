@@ -1,5 +1,6 @@
 -- The bracket at a visit, if one stands there: what is left to do is to deal the edge.
-use Prim.Native.Nat.{ℕ, _+_, _<_}
+use Prim.Native.Nat.{ℕ, _+_, _≤_, _<_}
+use native.Mathlib.Omega.{arith}
 use mathlib.Core.Path.{_≡_, refl, sym, ap, _∙_, subst}
 use mathlib.Core.Bool.{Bool, true, false, cond}
 use mathlib.Core.List.{List}
@@ -12,24 +13,29 @@ use Rattle.plane.specs.Words.{bit, Lowest, WithoutLowest}
 use Rattle.covering.specs.declared.Words.{Words}
 use Rattle.settling.specs.Deals.{DealPost}
 use Rattle.front.specs.declared.span.Span.{Span}
-use Rattle.front.specs.Post.{TopPost, AbovePost, valueOf, pulseIn, framedIn, bracketIn}
+use Rattle.front.specs.Post.{TopPost, AbovePost, valueOf, framedIn, bracketIn}
 use Rattle.front.proofs.Spans.{bracket-none, bracket-there}
-use Rattle.blocks.specs.Steps.{Wanted}
+use Rattle.blocks.specs.Steps.{Wanted, apartIn, secondIn}
 use Rattle.blocks.proofs.Visiting.{Todo, todo-plain, todo-bracket}
 use Rattle.blocks.proofs.Taking.{Framed, Visited, visited-plain, visited-framed}
 
--- the pulse at u, as the code has it
-pub pulse-as : (x i u : ℕ) (recent : List ℕ) (base : ℕ) (values : List ℕ) (main : Bool) (e : Pulse) → main ≡ bit x i
-    → e ≡ record { tick = record { 0 = u }; main = main; value = valueOf recent base values (u + 1) } → e ≡ pulseIn x i u (valueOf recent base values (u + 1))
-pulse-as x i u recent base values main e em ee =
-    ee ∙ (λ j. record { tick = record { 0 = u }; main = em j; value = valueOf recent base values (u + 1) })
+-- F2 stands at most 169 ticks behind
+pub second-low : (s : Span) (i : ℕ) → apartIn s i ≤ 169
+second-low s i = go (bit (s .at168) i) (bit (s .at167) i)
+  where
+    go : (a b : Bool) → cond a 168 (cond b 167 169) ≤ 169
+    go true b = omega arith
+    go false true = omega arith
+    go false false = omega arith
 
 module _ (s : Span) (i u : ℕ) (recent : List ℕ) (base : ℕ) (values : List ℕ) (there : Bool) (et : there ≡ framedIn s i) where
-  -- its F2, as the code has it
-  pub second-as : there ≡ true → (main : Bool) → main ≡ cond (bit (s .at168) i) (bit (s .main168) i) (cond (bit (s .at167) i) (bit (s .main167) i) (bit (s .main169) i))
-      → (d : ℕ) → d ≡ cond (bit (s .at168) i) 168 (cond (bit (s .at167) i) 167 169)
-      → (f : Pulse) → f ≡ record { tick = record { 0 = u + d }; main = main; value = valueOf recent base values (u + d + 1) } → With f ≡ bracketIn s i u recent base values
-  second-as on main em d ed f ef = ap With ef ∙ bracket-there s i u recent base values there main d (valueOf recent base values (u + d + 1)) et on em ed refl
+  -- the F2 that the code finds is that of the bracket
+  pub second-as : there ≡ true → (f : Pulse) → f ≡ secondIn s i u recent base values → With f ≡ bracketIn s i u recent base values
+  second-as on f ef =
+      ap With ef
+      ∙ bracket-there s i u recent base values there
+      (cond (bit (s .at168) i) (bit (s .main168) i) (cond (bit (s .at167) i) (bit (s .main167) i) (bit (s .main169) i))) (apartIn s i)
+      (valueOf recent base values (u + apartIn s i + 1)) et on refl refl refl
 
   module _ (r : ℕ) (e : Pulse) (l : List Place) (on risk : Words) (c : Counts) (todo from : ℕ) (td : Todo s r on todo from) (low : Lowest todo i) where
     -- l₁, on₁, risk₁, c₁ are what the bracket makes of them, and todo₁ the ticks to visit behind it

@@ -19,6 +19,7 @@ use Rattle.rules.specs.Calls.{fresh}
 use Rattle.rules.specs.declared.Counts.{Counts}
 use Rattle.places.specs.Places.{test, machineOf}
 use Rattle.rules.specs.declared.Place.{Place}
+use Rattle.rules.specs.declared.Pulse.{Pulse}
 use Rattle.covering.specs.declared.Words.{Words}
 use Rattle.covering.specs.Marks.{anyAt}
 use Rattle.rules.specs.Buffers.{over-at}
@@ -28,7 +29,7 @@ use Rattle.front.specs.declared.words.Front.{Front}
 use Rattle.front.specs.declared.span.Span.{Span}
 use Rattle.blocks.specs.declared.Progress.{Progress}
 use Rattle.front.specs.Words.{padded, frontOf}
-use Rattle.front.specs.Post.{Low, Reads, Spanned, framedIn, blank}
+use Rattle.front.specs.Post.{Low, Reads, Spanned, valueOf, pulseIn, framedIn, blank}
 
 -- no flag
 abbrev pub flagless : Planes → Bool
@@ -65,6 +66,25 @@ wantedIn s on i = framedIn s i || anyAt on i
 -- those of the ticks x
 pub record Wanted (s : Span) (on : Words) (x y : ℕ) : Type 0 where
   pub at : (i : ℕ) → bit y i ≡ (bit x i && wantedIn s on i)
+
+-- ---- the edges
+
+-- the edge at u, which is tick i of the span, with M and value of the next tick
+abbrev pub edgeIn : Span → ℕ → ℕ → List ℕ → ℕ → List ℕ → Pulse
+edgeIn s i u recent base values = pulseIn (s .main) i u (valueOf recent base values (u + 1))
+
+-- how far behind an edge its F2 stands: 168 ticks, else 167, else 169
+abbrev pub apartIn : Span → ℕ → ℕ
+apartIn s i = cond (bit (s .at168) i) 168 (cond (bit (s .at167) i) 167 169)
+
+-- the F2 of the bracket at u, where one stands
+abbrev pub secondIn : Span → ℕ → ℕ → List ℕ → ℕ → List ℕ → Pulse
+secondIn s i u recent base values =
+    record {
+      tick = record { 0 = u + apartIn s i };
+      main = cond (bit (s .at168) i) (bit (s .main168) i) (cond (bit (s .at167) i) (bit (s .main167) i) (bit (s .main169) i));
+      value = valueOf recent base values (u + apartIn s i + 1);
+    }
 
 -- ---- a block of up to 64 ticks
 

@@ -4,11 +4,13 @@ ghost use mathlib.Core.Path.{_≡_};
 ghost use mathlib.Core.Bool.{_&&_};
 ghost use lib.ListN.{length};
 ghost use Rattle.packing.specs.Packing.{PackedPart};
-ghost use Rattle.front.specs.Post.{valueOf, blank};
-ghost use Rattle.blocks.specs.Steps.{blockLength, Wanted, flagless, noneDue};
+ghost use Rattle.front.specs.Post.{blank};
+ghost use Rattle.blocks.specs.Steps.{blockLength, Wanted, edgeIn, secondIn, flagless, noneDue};
 use covering::Words;
 use covering::any_word;
 use front::span::Span;
+use front::span::apart;
+use front::span::second_main;
 use front::values::value_at;
 use front::words::Front;
 use front::words::is_blank;
@@ -17,6 +19,7 @@ use packing::Planes;
 use packing::flags::bare_block;
 use packing::pack;
 use packing::pack_part;
+use plane::marked;
 use rules::Machine;
 use rules::Place;
 use rules::Pulse;
@@ -68,14 +71,30 @@ pub fn wanted(s: Span, on: Words, x: u64) -> u64
     x & (s.at168 | (s.at167 | (s.at169 | any_word(on))))
 }
 
-// The edge at u, with this M: its value is that of the next tick.
-pub fn pulse_at(recent: &[u8; 256], base: u32, values: &[u8], u: Tick, main: bool) -> Pulse
-    requires { ⌜ u .0 < 65800 ⌝ }
-    ensures { λ e. ⌜ e ≡ record { tick = u; main = main; value = valueOf (now (recent .entry)) base (now (values .entry)) (u .0 + 1) } ⌝ }
+// The edge at u, which is tick i of the span: its value is that of the next tick.
+pub fn edge_at(s: Span, i: u32, u: Tick, recent: &[u8; 256], base: u32, values: &[u8]) -> Pulse
+    requires { ⌜ (i < 64) × (u .0 < 65536) ⌝ }
+    ensures { λ e. ⌜ e ≡ edgeIn s i (u .0) (now (recent .entry)) base (now (values .entry)) ⌝ }
 {
+    let main = marked(s.main, i);
     let value = value_at(recent, base, values, u.0 + 1);
     Pulse {
         tick: u,
+        main,
+        value,
+    }
+}
+
+// The F2 of the bracket at u, where one stands.
+pub fn second_at(s: Span, i: u32, u: Tick, recent: &[u8; 256], base: u32, values: &[u8]) -> Pulse
+    requires { ⌜ (i < 64) × (u .0 < 65536) ⌝ }
+    ensures { λ e. ⌜ e ≡ secondIn s i (u .0) (now (recent .entry)) base (now (values .entry)) ⌝ }
+{
+    let w = u.0 + apart(s, i);
+    let main = second_main(s, i);
+    let value = value_at(recent, base, values, w + 1);
+    Pulse {
+        tick: Tick(w),
         main,
         value,
     }

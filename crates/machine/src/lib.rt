@@ -9,9 +9,10 @@ ghost use Rattle.covering.specs.Marks.{four};
 ghost use Rattle.blocks.specs.Feeding.{BlocksPost};
 use blocks::Progress;
 use blocks::block_length;
+use blocks::edge_at;
 use blocks::none_due;
 use blocks::packed;
-use blocks::pulse_at;
+use blocks::second_at;
 use blocks::stays;
 use blocks::wanted;
 use covering::any_word;
@@ -23,9 +24,7 @@ use covering::which;
 use covering::with_word;
 use covering::without_word;
 use front::span::above;
-use front::span::apart;
 use front::span::framed;
-use front::span::second_main;
 use front::span::span_of;
 use front::span::tick_of;
 use front::span::top;
@@ -41,7 +40,6 @@ use outcomes::opened;
 use outcomes::opens;
 use outcomes::outcome_of;
 use outcomes::removed_by;
-use places::any3;
 use plane::lowest;
 use plane::marked;
 use plane::without_lowest;
@@ -51,9 +49,9 @@ use rules::Place;
 use rules::Places;
 use rules::Slot;
 use rules::Tick;
+use settling::agreement_of;
 use settling::heard;
 use settling::speaks;
-use settling::voices_of;
 
 // ---- the four places as an array, and back
 
@@ -145,15 +143,9 @@ pub fn work(
                 risk = without_word(risk, 0);
                 continue;
             }
-            let e = pulse_at(recent, base, values, u, marked(s.main, i));
+            let e = edge_at(s, i, u, recent, base, values);
             if framed(s, i) {
-                let f2 = pulse_at(
-                    recent,
-                    base,
-                    values,
-                    Tick(u.0 + apart(s, i)),
-                    second_main(s, i),
-                );
+                let f2 = second_at(s, i, u, recent, base, values);
                 let f = firsts_of(places);
                 let y = outcome_of(f, on, risk, i, e, f2, is_busy(f));
                 counts = counted(y, counts);
@@ -184,22 +176,22 @@ pub fn work(
                 todo = without_lowest(todo);
             }
             if marked(twice(on), i) {
-                let v = voices_of(places, on, i, e.value);
+                let v = agreement_of(places, on, i, e.value);
                 if marked(on.a, i) {
                     let q = places[0];
-                    places[0] = heard(q, e, v.a, any3(v.b, v.c, v.d));
+                    places[0] = heard(q, e, v.own.a, v.other.a);
                 }
                 if marked(on.b, i) {
                     let q = places[1];
-                    places[1] = heard(q, e, v.b, any3(v.a, v.c, v.d));
+                    places[1] = heard(q, e, v.own.b, v.other.b);
                 }
                 if marked(on.c, i) {
                     let q = places[2];
-                    places[2] = heard(q, e, v.c, any3(v.a, v.b, v.d));
+                    places[2] = heard(q, e, v.own.c, v.other.c);
                 }
                 if marked(on.d, i) {
                     let q = places[3];
-                    places[3] = heard(q, e, v.d, any3(v.a, v.b, v.c));
+                    places[3] = heard(q, e, v.own.d, v.other.d);
                 }
             } else {
                 if marked(any_word(on), i) {

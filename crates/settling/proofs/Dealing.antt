@@ -2,7 +2,7 @@
 use Prim.Native.Nat.{ℕ, zero, suc}
 use native.Mathlib.Omega.{arith}
 use mathlib.Core.Logic.{_⊎_, inl, inr}
-use mathlib.Core.Path.{_≡_, refl, sym, ap, _∙_}
+use mathlib.Core.Path.{_≡_, refl, sym, ap, _∙_, subst}
 use mathlib.Core.Bool.{Bool, true, false, not, _&&_, _||_, cond}
 use mathlib.Core.List.{List, [], _∷_}
 use lib.Dec.{leb, eqb}
@@ -23,7 +23,8 @@ use Rattle.plane.specs.Words.{bit}
 use Rattle.covering.specs.declared.Words.{Words}
 use Rattle.covering.specs.Marks.{four, Marked, AnyWord, twoOf, TwiceWord, whichOf}
 use Rattle.settling.specs.declared.Voices.{Voices}
-use Rattle.settling.specs.Deals.{hearing, turned, voicesBy, voicesIn, allTurned, OnePost, AllPost, DealPost}
+use Rattle.settling.specs.declared.Agreement.{Agreement}
+use Rattle.settling.specs.Deals.{hearing, turned, voicesBy, voicesIn, agreementBy, allTurned, OnePost, AllPost, DealPost}
 
 pub speaks-idle : (c : Bool) (q : Reply → Bool) (p : Place) → p .slot ≡ Idle → false ≡ (c && test q p)
 speaks-idle true q p h = sym (ap (testSlot q) h)
@@ -223,13 +224,13 @@ pub record Turns (c : Bool) (j : ℕ) (e : Pulse) (own other : Bool) (l m : List
   pub is : c ≡ true → test (covers (e .tick .0)) (getD l j idle) ≡ true → place ≡ hearing e own other (getD l j idle)
   pub stays : c ≡ false → m ≡ l
 
-pub turns-did : (c : Bool) (j : ℕ) (e : Pulse) (own other o : Bool) (l m : List Place) (y : Place) → c ≡ true → m ≡ set l j y
-    → (test (covers (e .tick .0)) (getD l j idle) ≡ true → y ≡ hearing e own o (getD l j idle)) → o ≡ other → Turns c j e own other l m
-turns-did c j e own other o l m y h k f g =
+pub turns-did : (c : Bool) (j : ℕ) (e : Pulse) (own other : Bool) (l m : List Place) (y : Place) → c ≡ true → m ≡ set l j y
+    → (test (covers (e .tick .0)) (getD l j idle) ≡ true → y ≡ hearing e own other (getD l j idle)) → Turns c j e own other l m
+turns-did c j e own other l m y h k f =
     record {
       place = y;
       did = λ z. k;
-      is = λ z q. f q ∙ ap (λ (b : Bool). hearing e own b (getD l j idle)) g;
+      is = λ z q. f q;
       stays = λ z. absurd (impossible (sym h ∙ z));
     }
 
@@ -257,25 +258,32 @@ pub record Dealt (l : List Place) (w : Words) (i : ℕ) (e : Pulse) (m : List Pl
   pub size : length m ≡ length l
   pub deal : DealPost l w i e m
 
--- the edge goes to the four places, one after the other
+-- the edge goes to the four places, one after the other; x says who agrees
 pub deals-four : (l m₁ m₂ m₃ m₄ : List Place) (w : Words) (i : ℕ) (e : Pulse) → length l ≡ 4 → (a b c d : Bool) → a ≡ bit (w .a) i → b ≡ bit (w .b) i → c ≡ bit (w .c) i → d ≡ bit (w .d) i
-    → (v : Voices) → v ≡ voicesIn (e .value) w i l → Turns a 0 e (v .a) (any3 (v .b) (v .c) (v .d)) l m₁ → Turns b 1 e (v .b) (any3 (v .a) (v .c) (v .d)) m₁ m₂
-    → Turns c 2 e (v .c) (any3 (v .a) (v .b) (v .d)) m₂ m₃ → Turns d 3 e (v .d) (any3 (v .a) (v .b) (v .c)) m₃ m₄ → Dealt l w i e m₄
-deals-four l m₁ m₂ m₃ m₄ w i e s a b c d ea eb ec ed v ev ta tb tc td =
-    let size = turns-size d 3 e (v .d) _ m₃ m₄ td ∙ turns-size c 2 e (v .c) _ m₂ m₃ tc ∙ turns-size b 1 e (v .b) _ m₁ m₂ tb ∙ turns-size a 0 e (v .a) _ l m₁ ta in
+    → (x : Agreement) → x ≡ agreementBy (voicesIn (e .value) w i l) → Turns a 0 e (x .own .a) (x .other .a) l m₁ → Turns b 1 e (x .own .b) (x .other .b) m₁ m₂ → Turns c 2 e (x .own .c) (x .other .c) m₂ m₃
+    → Turns d 3 e (x .own .d) (x .other .d) m₃ m₄ → Dealt l w i e m₄
+deals-four l m₁ m₂ m₃ m₄ w i e s a b c d ea eb ec ed x ex ta tb tc td =
+    let v = voicesIn (e .value) w i l in
+    let ta′ : Turns a 0 e (v .a) (any3 (v .b) (v .c) (v .d)) l m₁ = subst (λ (y : Agreement). Turns a 0 e (y .own .a) (y .other .a) l m₁) ex ta in
+    let tb′ : Turns b 1 e (v .b) (any3 (v .a) (v .c) (v .d)) m₁ m₂ = subst (λ (y : Agreement). Turns b 1 e (y .own .b) (y .other .b) m₁ m₂) ex tb in
+    let tc′ : Turns c 2 e (v .c) (any3 (v .a) (v .b) (v .d)) m₂ m₃ = subst (λ (y : Agreement). Turns c 2 e (y .own .c) (y .other .c) m₂ m₃) ex tc in
+    let td′ : Turns d 3 e (v .d) (any3 (v .a) (v .b) (v .c)) m₃ m₄ = subst (λ (y : Agreement). Turns d 3 e (y .own .d) (y .other .d) m₃ m₄) ex td in
     record {
-      size = size;
-      deal = deal-all-law l w i e s m₄
+      size =
+          turns-size d 3 e (v .d) (any3 (v .a) (v .b) (v .c)) m₃ m₄ td′ ∙ turns-size c 2 e (v .c) (any3 (v .a) (v .b) (v .d)) m₂ m₃ tc′
+          ∙ turns-size b 1 e (v .b) (any3 (v .a) (v .c) (v .d)) m₁ m₂ tb′ ∙ turns-size a 0 e (v .a) (any3 (v .b) (v .c) (v .d)) l m₁ ta′;
+      deal =
+          deal-all-law l w i e s m₄
           (record {
             at = λ k.
                 let fa : Place → Place = hearing e (v .a) (any3 (v .b) (v .c) (v .d)) in
                 let fb : Place → Place = hearing e (v .b) (any3 (v .a) (v .c) (v .d)) in
                 let fc : Place → Place = hearing e (v .c) (any3 (v .a) (v .b) (v .d)) in
-                let e0 = turned-by a 0 e (v .a) (any3 (v .b) (v .c) (v .d)) l l m₁ (ea ∙ k .a) refl ta in
-                let e1 = turned-by b 1 e (v .b) (any3 (v .a) (v .c) (v .d)) l m₁ m₂ (eb ∙ k .b) (second-stays a b c fa fb fc l m₁ l l e0) tb in
-                let e2 = turned-by c 2 e (v .c) (any3 (v .a) (v .b) (v .d)) l m₂ m₃ (ec ∙ k .c) (third-stays a b c fa fb fc l m₁ m₂ l e0 e1) tc in
-                let e3 = turned-by d 3 e (v .d) (any3 (v .a) (v .b) (v .c)) l m₃ m₄ (ed ∙ k .d) (fourth-stays a b c fa fb fc l m₁ m₂ m₃ e0 e1 e2) td in
-                chain e a b c d v l m₁ m₂ m₃ m₄ e0 e1 e2 e3 ∙ (λ j. allTurned e (ea j) (eb j) (ec j) (ed j) (ev j) l);
+                let e0 = turned-by a 0 e (v .a) (any3 (v .b) (v .c) (v .d)) l l m₁ (ea ∙ k .a) refl ta′ in
+                let e1 = turned-by b 1 e (v .b) (any3 (v .a) (v .c) (v .d)) l m₁ m₂ (eb ∙ k .b) (second-stays a b c fa fb fc l m₁ l l e0) tb′ in
+                let e2 = turned-by c 2 e (v .c) (any3 (v .a) (v .b) (v .d)) l m₂ m₃ (ec ∙ k .c) (third-stays a b c fa fb fc l m₁ m₂ l e0 e1) tc′ in
+                let e3 = turned-by d 3 e (v .d) (any3 (v .a) (v .b) (v .c)) l m₃ m₄ (ed ∙ k .d) (fourth-stays a b c fa fb fc l m₁ m₂ m₃ e0 e1 e2) td′ in
+                chain e a b c d v l m₁ m₂ m₃ m₄ e0 e1 e2 e3 ∙ (λ j. allTurned e (ea j) (eb j) (ec j) (ed j) v l);
           });
     }
 

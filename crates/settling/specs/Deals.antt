@@ -14,6 +14,7 @@ use Rattle.plane.specs.Words.{bit}
 use Rattle.covering.specs.declared.Words.{Words}
 use Rattle.covering.specs.Marks.{four, Marked}
 use Rattle.settling.specs.declared.Voices.{Voices}
+use Rattle.settling.specs.declared.Agreement.{Agreement}
 
 abbrev pub hearing : Pulse → Bool → Bool → Place → Place
 hearing e own other x = hearAt wrapped (positionIn (e .tick .0) x) e (verdict (e .main) own other) x
@@ -33,6 +34,14 @@ voicesBy v a b c d l =
 
 abbrev pub voicesIn : ℕ → Words → ℕ → List Place → Voices
 voicesIn v w i l = voicesBy v (bit (w .a) i) (bit (w .b) i) (bit (w .c) i) (bit (w .d) i) l
+
+-- each, and whether another does
+abbrev pub agreementBy : Voices → Agreement
+agreementBy v =
+    record {
+      own = v;
+      other = record { a = any3 (v .b) (v .c) (v .d); b = any3 (v .a) (v .c) (v .d); c = any3 (v .a) (v .b) (v .d); d = any3 (v .a) (v .b) (v .c) };
+    }
 
 abbrev pub allTurned : Pulse → Bool → Bool → Bool → Bool → Voices → List Place → List Place
 allTurned e a b c d v l =

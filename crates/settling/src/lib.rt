@@ -9,8 +9,9 @@ ghost use Rattle.replies.specs.Sums.{wrapped};
 ghost use Rattle.places.specs.Places.{test};
 ghost use Rattle.masks.specs.Masks.{coversFrom};
 ghost use Rattle.settling.specs.Hearing.{placeOf, freshIn, kindOf, estimateOf, hearBy};
-ghost use Rattle.settling.specs.Deals.{hearing, voicesIn};
+ghost use Rattle.settling.specs.Deals.{hearing, voicesIn, agreementBy};
 use covering::Words;
+use places::any3;
 use plane::marked;
 use replies::average;
 use replies::choose;
@@ -51,7 +52,7 @@ pub fn speaks(c: bool, p: Place, v: u8) -> bool
     }
 }
 
-pub fn voices_of(p: [Place; 4], on: Words, i: u32, v: u8) -> Voices
+fn voices_of(p: [Place; 4], on: Words, i: u32, v: u8) -> Voices
     requires { ⌜ i < 64 ⌝ }
     ensures { λ r. ⌜ r ≡ voicesIn v on i p ⌝ }
 {
@@ -61,6 +62,26 @@ pub fn voices_of(p: [Place; 4], on: Words, i: u32, v: u8) -> Voices
         c: speaks(marked(on.c, i), p[2], v),
         d: speaks(marked(on.d, i), p[3], v),
     }
+}
+
+// Of the places that cover an edge: whose reference its value agrees with, and beside whom it agrees with another's.
+pub struct Agreement {
+    pub own: Voices,
+    pub other: Voices,
+}
+
+pub fn agreement_of(p: [Place; 4], on: Words, i: u32, v: u8) -> Agreement
+    requires { ⌜ i < 64 ⌝ }
+    ensures { λ r. ⌜ r ≡ agreementBy (voicesIn v on i p) ⌝ }
+{
+    let own = voices_of(p, on, i, v);
+    let other = Voices {
+        a: any3(own.b, own.c, own.d),
+        b: any3(own.a, own.c, own.d),
+        c: any3(own.a, own.b, own.d),
+        d: any3(own.a, own.b, own.c),
+    };
+    Agreement { own, other }
 }
 
 // ---- settling

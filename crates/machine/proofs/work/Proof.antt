@@ -1,37 +1,30 @@
 -- `work` takes a piece block by block, and of each block the ticks to visit, lowest first.
-use borrow.Author.Needs.{needs}
-use Prim.Native.Nat.{_-_}
+use Prim.Native.Nat.{ℕ, _+_, _-_}
 use native.Mathlib.Omega.{arith}
-use lib.ListN.{length, getD}
 use mathlib.Core.Path.{_≡_, refl, sym, ap, _∙_, subst}
-use mathlib.Core.Bool.{Bool, true, false}
-use mathlib.Core.List.{List, [], _∷_}
-use borrow.Author.Tests.{not-true, not-false}
+use mathlib.Core.List.{List}
+use lib.ListN.{length, getD, set}
+use borrow.Author.Tests.{eqb-true, not-true, not-false}
 use Rattle.rules.specs.declared.Place.{Place}
-use Rattle.rules.specs.declared.Tick.{Tick}
-use Rattle.rules.specs.Replies.{ended}
-use Rattle.places.specs.Places.{test, idle}
-use Rattle.covering.proofs.Starting.{all-marked}
-use Rattle.blocks.proofs.Blank.{stays-law}
-use Rattle.blocks.proofs.BlockLaws.{block-law}
-use Rattle.blocks.specs.Leaving.{machineIn}
-use Rattle.blocks.proofs.Working.{Working, work-start, work-over, work-less, work-taken, end-start, end-none, end-works, first-from}
-use Rattle.blocks.proofs.Feeding.{Feeding, feed-start, feed-next, feed-end}
-use Rattle.machine.proofs.Turns.{openCount, turnsLeft, turn-taken, turn-over, turn-less, hand-less, four-places}
-use Prim.Native.Nat.{ℕ, _+_}
-use borrow.Author.Tests.{eqb-true}
 use Rattle.rules.specs.declared.Places.{Places}
 use Rattle.rules.specs.declared.Pulse.{Pulse}
-use Rattle.places.specs.Places.{any3}
-use Rattle.front.specs.Post.{bracketIn}
+use Rattle.rules.specs.Replies.{ended}
+use Rattle.places.specs.Places.{idle}
+use Rattle.covering.proofs.Starting.{all-marked}
 use Rattle.settling.proofs.Dealing.{either, turns-did, turns-not, Dealt, deals-four, deals-one, deals-none}
+use Rattle.front.specs.Post.{bracketIn}
 use Rattle.blocks.specs.declared.Progress.{Progress}
-use Rattle.blocks.proofs.Blank.{all-three, both, due-over}
-use Rattle.blocks.proofs.Taking.{framed-shut, framed-opens, framed-as}
-use Rattle.blocks.proofs.Standing.{pulse-as, second-as, Stood, stood-plain, stood-framed}
+use Rattle.blocks.specs.Leaving.{machineIn}
 use Rattle.blocks.specs.Feeding.{BlocksPost}
-use lib.ListN.{set}
+use Rattle.blocks.proofs.Blank.{all-three, both, due-over, stays-law}
+use Rattle.blocks.proofs.BlockLaws.{block-law}
+use Rattle.blocks.proofs.Feeding.{Feeding, feed-start, feed-next, feed-end}
+use Rattle.blocks.proofs.Standing.{second-low, second-as, Stood, stood-plain, stood-framed}
+use Rattle.blocks.proofs.Taking.{framed-shut, framed-opens, framed-as}
+use Rattle.blocks.proofs.Working.{Working, work-start, work-over, work-less, work-taken, end-start, end-none, end-works, first-from}
 use Rattle.machine.proofs.Handing.{Hands, hands-none, hands-more}
+use Rattle.machine.proofs.Turns.{openCount, turnsLeft, turn-taken, turn-over, turn-less, hand-less, four-places}
+use borrow.Author.Needs.{needs}
 use Rattle.machine.proofs.work.Statement.{statement}
 use Rattle.machine.proofs.work.Tie as tie
 
@@ -171,14 +164,14 @@ loop-again-2 c =
     let array-of = c .before .before .before .before .before .before .before .before .before .before .before .before .before .before .array-of in
     let args = c .before .before .before .before .before .before .before .before .before .before .before .before .before .before .before .before .before .before .before .before .args in
     let o : Progress = record { front = loop .front; machine = machineIn (loop .places) (loop .counts); at = loop .at } in
-    let m = machineIn (loop .places) (loop .counts) in
+    let m = (machineIn (loop .places) (loop .counts)) in
     let s = both _ _ (if2 .taken) in (
       loop .inv .0,
       feed-next (record { front = args .o .front; machine = machineIn (array-of .result) (args .o .machine .counts); at = args .o .at }) (args .recent .now) (args .base) (args .flags .now) (args .values .now) (args .out .now)
           (loop .out) o (loop .done) (block-length .result) _ (packed .result) (record { front = advance .result; machine = m; at = loop .at }) (loop .out) (omega (arith, block-length .ensures .1 .1 .0, test1 .taken)) refl (packed .ensures)
           (block-law o (packed .result) (block-length .result) _ (args .recent .now) (args .base) (args .values .now) (loop .out) (advance .result) (span-of .result) m (loop .at) (loop .out) (advance .ensures) (span-of .ensures)
-          (end-works m (span-of .result) (block-length .result) _ (args .recent .now) (args .base) (args .values .now) (loop .at) (loop .out) (loop .out) (loop .places) (loop .counts) (loop .at)
-          (end-none m (span-of .result) (block-length .result) _ (args .recent .now) (args .base) (args .values .now) (loop .at) (loop .out) (loop .places) (loop .counts) (top .result) refl (block-length .ensures .1 .0) (top .ensures) (eqb-true _ 0 (s .0)))
+          (end-works (machineIn (loop .places) (loop .counts)) (span-of .result) (block-length .result) _ (args .recent .now) (args .base) (args .values .now) (loop .at) (loop .out) (loop .out) (loop .places) (loop .counts) (loop .at)
+          (end-none (machineIn (loop .places) (loop .counts)) (span-of .result) (block-length .result) _ (args .recent .now) (args .base) (args .values .now) (loop .at) (loop .out) (loop .places) (loop .counts) (top .result) refl (block-length .ensures .1 .0) (top .ensures) (eqb-true _ 0 (s .0)))
           (sym (none-due .ensures) ∙ s .1)))
           (loop .inv .1),
     )
@@ -314,32 +307,26 @@ loop2-again c =
     let block-length = c .before .before .before .before .before .before .before .before .before .before .before .before .before .before .before .before .before .before .before .before .before .before .before .before .before .before .before .before .before .before .before .before .before .before .block-length in
     let loop = c .before .before .before .before .before .before .before .before .before .before .before .before .before .before .before .before .before .before .before .before .before .before .before .before .before .before .before .before .before .before .before .before .before .before .before .before .loop in
     let args = c .before .before .before .before .before .before .before .before .before .before .before .before .before .before .before .before .before .before .before .before .before .before .before .before .before .before .before .before .before .before .before .before .before .before .before .before .before .before .before .before .before .before .before .before .args in
-    work-over (machineIn (loop .places) (loop .counts)) (span-of .result) (block-length .result) _ (args .recent .now) (args .base) (args .values .now) (loop .at) (loop .out)
-    (loop2 .out) (loop2 .places) (loop2 .on) (loop2 .risk) (loop2 .counts) (loop2 .at) (loop2 .todo) (loop2 .from) (loop2 .inv) (lowest .result) (tick-of .result) (lowest .ensures) (tick-of .ensures .1)
+    work-over (machineIn (loop .places) (loop .counts)) (span-of .result) (block-length .result) _ (args .recent .now) (args .base) (args .values .now) (loop .at) (loop .out) (loop2 .out) (loop2 .places) (loop2 .on) (loop2 .risk) (loop2 .counts) (loop2 .at) (loop2 .todo) (loop2 .from) (loop2 .inv) (lowest .result) (tick-of .result) (lowest .ensures) (tick-of .ensures .1)
     (is-over .result) (is-over .ensures) (if3 .taken) (hand-one .result) _ (hand-one .kept .1 .1 .0) (hand-one .ensures) (without-word .result) (without-word2 .result) _ (without-word .ensures) (without-word2 .ensures) (four-places _ _ _ _ _ _ _ _ (kept .ensures) (kept2 .ensures) (kept3 .ensures) (idle-place .ensures))
 
-marked-requires : tie.Need-marked-requires Inv-loop2 μ-loop2 Inv-loop3 μ-loop3 Inv-loop μ-loop
-marked-requires c κs = search needs
-
-pulse-at-requires : tie.Need-pulse-at-requires Inv-loop2 μ-loop2 Inv-loop3 μ-loop3 Inv-loop μ-loop
-pulse-at-requires c κs = search needs
+edge-at-requires : tie.Need-edge-at-requires Inv-loop2 μ-loop2 Inv-loop3 μ-loop3 Inv-loop μ-loop
+edge-at-requires c κs =
+    let tick-of = c .before .before .before .tick-of in
+    let lowest = c .before .before .before .before .lowest in
+    (lowest .ensures .below, tick-of .ensures .0)
 
 framed-requires : tie.Need-framed-requires Inv-loop2 μ-loop2 Inv-loop3 μ-loop3 Inv-loop μ-loop
-framed-requires c κs = search needs
+framed-requires c κs =
+    let lowest = c .before .before .before .before .before .lowest in
+    lowest .ensures .below
 
-apart-requires : tie.Need-apart-requires Inv-loop2 μ-loop2 Inv-loop3 μ-loop3 Inv-loop μ-loop
-apart-requires c κs = search needs
-
-add-t78 : tie.Need-add-t78 Inv-loop2 μ-loop2 Inv-loop3 μ-loop3 Inv-loop μ-loop
-add-t78 c = search needs
-
-second-main-requires :
-    tie.Need-second-main-requires Inv-loop2 μ-loop2 Inv-loop3 μ-loop3 Inv-loop μ-loop
-second-main-requires c κs = search needs
-
-pulse-at-requires-2 :
-    tie.Need-pulse-at-requires-2 Inv-loop2 μ-loop2 Inv-loop3 μ-loop3 Inv-loop μ-loop
-pulse-at-requires-2 c κs = search needs
+second-at-requires :
+    tie.Need-second-at-requires Inv-loop2 μ-loop2 Inv-loop3 μ-loop3 Inv-loop μ-loop
+second-at-requires c κs =
+    let tick-of = c .before .before .before .before .before .before .tick-of in
+    let lowest = c .before .before .before .before .before .before .before .lowest in
+    (lowest .ensures .below, tick-of .ensures .0)
 
 firsts-of-requires :
     tie.Need-firsts-of-requires Inv-loop2 μ-loop2 Inv-loop3 μ-loop3 Inv-loop μ-loop
@@ -351,7 +338,7 @@ is-busy-requires c κs = search needs
 outcome-of-requires :
     tie.Need-outcome-of-requires Inv-loop2 μ-loop2 Inv-loop3 μ-loop3 Inv-loop μ-loop
 outcome-of-requires c κs =
-    let lowest = c .before .before .before .before .before .before .before .before .before .before .before .before .before .before .lowest in
+    let lowest = c .before .before .before .before .before .before .before .before .before .before .lowest in
     lowest .ensures .below
 
 counted-requires : tie.Need-counted-requires Inv-loop2 μ-loop2 Inv-loop3 μ-loop3 Inv-loop μ-loop
@@ -425,8 +412,8 @@ loop2-less-2 c =
     let if5 = c .before .before .before .before .before .before .before .before .before .before .before .before .if5 in
     let removed-by = c .before .before .before .before .before .before .before .before .before .before .before .before .before .removed-by in
     let outcome-of = c .before .before .before .before .before .before .before .before .before .before .before .before .before .before .before .outcome-of in
-    let lowest = c .before .before .before .before .before .before .before .before .before .before .before .before .before .before .before .before .before .before .before .before .before .before .before .before .before .before .before .before .before .before .lowest in
-    let loop2 = c .before .before .before .before .before .before .before .before .before .before .before .before .before .before .before .before .before .before .before .before .before .before .before .before .before .before .before .before .before .before .before .before .loop2 in
+    let lowest = c .before .before .before .before .before .before .before .before .before .before .before .before .before .before .before .before .before .before .before .before .before .before .before .before .before .before .lowest in
+    let loop2 = c .before .before .before .before .before .before .before .before .before .before .before .before .before .before .before .before .before .before .before .before .before .before .before .before .before .before .before .before .loop2 in
     turn-less (removed-by .result) (lowest .result) (loop2 .from) (loop2 .places) _ (loop2 .risk) (without-word4 .result) (if5 .taken) (removed-by .ensures ∙ outcome-of .ensures .last (omega (arith, removed-by .ensures, if5 .taken))) (four-places _ _ _ _ _ _ _ _ (kept4 .ensures ∙ ap (λ (n : ℕ). getD (loop2 .places) n idle) (behind .ensures .0)) (kept5 .ensures ∙ ap (λ (n : ℕ). getD (loop2 .places) n idle) (behind2 .ensures .0)) (kept6 .ensures ∙ ap (λ (n : ℕ). getD (loop2 .places) n idle) (behind3 .ensures .0)) (idle-place2 .ensures)) (without-word4 .ensures)
 
 loop2-again-2 : tie.Need-loop2-again-2 Inv-loop2 μ-loop2 Inv-loop3 μ-loop3 Inv-loop μ-loop
@@ -446,30 +433,29 @@ loop2-again-2 c =
     let outcome-of = c .before .before .before .before .before .before .before .before .before .before .before .before .before .before .before .outcome-of in
     let is-busy = c .before .before .before .before .before .before .before .before .before .before .before .before .before .before .before .before .is-busy in
     let firsts-of = c .before .before .before .before .before .before .before .before .before .before .before .before .before .before .before .before .before .firsts-of in
-    let pulse-at2 = c .before .before .before .before .before .before .before .before .before .before .before .before .before .before .before .before .before .before .pulse-at2 in
-    let second-main = c .before .before .before .before .before .before .before .before .before .before .before .before .before .before .before .before .before .before .before .second-main in
-    let apart = c .before .before .before .before .before .before .before .before .before .before .before .before .before .before .before .before .before .before .before .before .before .apart in
-    let if4 = c .before .before .before .before .before .before .before .before .before .before .before .before .before .before .before .before .before .before .before .before .before .before .if4 in
-    let framed = c .before .before .before .before .before .before .before .before .before .before .before .before .before .before .before .before .before .before .before .before .before .before .before .framed in
-    let pulse-at = c .before .before .before .before .before .before .before .before .before .before .before .before .before .before .before .before .before .before .before .before .before .before .before .before .pulse-at in
-    let marked = c .before .before .before .before .before .before .before .before .before .before .before .before .before .before .before .before .before .before .before .before .before .before .before .before .before .marked in
-    let if3 = c .before .before .before .before .before .before .before .before .before .before .before .before .before .before .before .before .before .before .before .before .before .before .before .before .before .before .if3 in
-    let is-over = c .before .before .before .before .before .before .before .before .before .before .before .before .before .before .before .before .before .before .before .before .before .before .before .before .before .before .before .is-over in
-    let tick-of = c .before .before .before .before .before .before .before .before .before .before .before .before .before .before .before .before .before .before .before .before .before .before .before .before .before .before .before .before .before .tick-of in
-    let lowest = c .before .before .before .before .before .before .before .before .before .before .before .before .before .before .before .before .before .before .before .before .before .before .before .before .before .before .before .before .before .before .lowest in
-    let loop2 = c .before .before .before .before .before .before .before .before .before .before .before .before .before .before .before .before .before .before .before .before .before .before .before .before .before .before .before .before .before .before .before .before .loop2 in
-    let span-of = c .before .before .before .before .before .before .before .before .before .before .before .before .before .before .before .before .before .before .before .before .before .before .before .before .before .before .before .before .before .before .before .before .before .before .before .before .before .before .before .before .span-of in
-    let block-length = c .before .before .before .before .before .before .before .before .before .before .before .before .before .before .before .before .before .before .before .before .before .before .before .before .before .before .before .before .before .before .before .before .before .before .before .before .before .before .before .before .before .before .before .before .before .before .block-length in
-    let loop = c .before .before .before .before .before .before .before .before .before .before .before .before .before .before .before .before .before .before .before .before .before .before .before .before .before .before .before .before .before .before .before .before .before .before .before .before .before .before .before .before .before .before .before .before .before .before .before .before .loop in
-    let args = c .before .before .before .before .before .before .before .before .before .before .before .before .before .before .before .before .before .before .before .before .before .before .before .before .before .before .before .before .before .before .before .before .before .before .before .before .before .before .before .before .before .before .before .before .before .before .before .before .before .before .before .before .before .before .before .before .args in
-    work-less (machineIn (loop .places) (loop .counts)) (span-of .result) (block-length .result) _ (args .recent .now) (args .base) (args .values .now) (loop .at) (loop .out) (loop2 .out) (loop2 .places) (loop2 .on) (loop2 .risk) (loop2 .counts) (loop2 .at) (loop2 .todo) (loop2 .from) (loop2 .inv) (lowest .result) (tick-of .result) (lowest .ensures) (tick-of .ensures .1) (is-over .result) (is-over .ensures) (if3 .left) (pulse-at .result) (pulse-as (span-of .result .main) (lowest .result) (tick-of .result) (args .recent .now) (args .base) (args .values .now) (marked .result) (pulse-at .result) (marked .ensures) (pulse-at .ensures)) (pulse-at2 .result) (second-as (span-of .result) (lowest .result) (tick-of .result) (args .recent .now) (args .base) (args .values .now) (framed .result) (framed .ensures) (if4 .taken) (second-main .result) (second-main .ensures) (apart .result) (apart .ensures .0) (pulse-at2 .result) (pulse-at2 .ensures)) (firsts-of .result) (firsts-of .ensures) (is-busy .result) (outcome-of .result) (outcome-of .ensures) (removed-by .result) (removed-by .ensures) (if5 .taken) (counted .result) (counted .ensures) (without-word3 .result) (without-word4 .result) _ (without-word3 .ensures) (without-word4 .ensures) (four-places _ _ _ _ _ _ _ _ (kept4 .ensures ∙ ap (λ (n : ℕ). getD (loop2 .places) n idle) (behind .ensures .0)) (kept5 .ensures ∙ ap (λ (n : ℕ). getD (loop2 .places) n idle) (behind2 .ensures .0)) (kept6 .ensures ∙ ap (λ (n : ℕ). getD (loop2 .places) n idle) (behind3 .ensures .0)) (idle-place2 .ensures))
+    let second-at = c .before .before .before .before .before .before .before .before .before .before .before .before .before .before .before .before .before .before .second-at in
+    let if4 = c .before .before .before .before .before .before .before .before .before .before .before .before .before .before .before .before .before .before .before .if4 in
+    let framed = c .before .before .before .before .before .before .before .before .before .before .before .before .before .before .before .before .before .before .before .before .framed in
+    let edge-at = c .before .before .before .before .before .before .before .before .before .before .before .before .before .before .before .before .before .before .before .before .before .edge-at in
+    let if3 = c .before .before .before .before .before .before .before .before .before .before .before .before .before .before .before .before .before .before .before .before .before .before .if3 in
+    let is-over = c .before .before .before .before .before .before .before .before .before .before .before .before .before .before .before .before .before .before .before .before .before .before .before .is-over in
+    let tick-of = c .before .before .before .before .before .before .before .before .before .before .before .before .before .before .before .before .before .before .before .before .before .before .before .before .before .tick-of in
+    let lowest = c .before .before .before .before .before .before .before .before .before .before .before .before .before .before .before .before .before .before .before .before .before .before .before .before .before .before .lowest in
+    let loop2 = c .before .before .before .before .before .before .before .before .before .before .before .before .before .before .before .before .before .before .before .before .before .before .before .before .before .before .before .before .loop2 in
+    let span-of = c .before .before .before .before .before .before .before .before .before .before .before .before .before .before .before .before .before .before .before .before .before .before .before .before .before .before .before .before .before .before .before .before .before .before .before .before .span-of in
+    let block-length = c .before .before .before .before .before .before .before .before .before .before .before .before .before .before .before .before .before .before .before .before .before .before .before .before .before .before .before .before .before .before .before .before .before .before .before .before .before .before .before .before .before .before .block-length in
+    let loop = c .before .before .before .before .before .before .before .before .before .before .before .before .before .before .before .before .before .before .before .before .before .before .before .before .before .before .before .before .before .before .before .before .before .before .before .before .before .before .before .before .before .before .before .before .loop in
+    let args = c .before .before .before .before .before .before .before .before .before .before .before .before .before .before .before .before .before .before .before .before .before .before .before .before .before .before .before .before .before .before .before .before .before .before .before .before .before .before .before .before .before .before .before .before .before .before .before .before .before .before .before .before .args in
+    work-less (machineIn (loop .places) (loop .counts)) (span-of .result) (block-length .result) _ (args .recent .now) (args .base) (args .values .now) (loop .at) (loop .out) (loop2 .out) (loop2 .places) (loop2 .on) (loop2 .risk) (loop2 .counts) (loop2 .at) (loop2 .todo) (loop2 .from) (loop2 .inv) (lowest .result) (tick-of .result) (lowest .ensures) (tick-of .ensures .1) (is-over .result) (is-over .ensures) (if3 .left) (edge-at .result) (edge-at .ensures) (second-at .result)
+    (second-as (span-of .result) (lowest .result) (tick-of .result) (args .recent .now) (args .base) (args .values .now) (framed .result) (framed .ensures) (if4 .taken) (second-at .result) (second-at .ensures))
+    (firsts-of .result) (firsts-of .ensures) (is-busy .result) (outcome-of .result) (outcome-of .ensures) (removed-by .result) (removed-by .ensures) (if5 .taken) (counted .result) (counted .ensures) (without-word3 .result) (without-word4 .result) _ (without-word3 .ensures) (without-word4 .ensures) (four-places _ _ _ _ _ _ _ _ (kept4 .ensures ∙ ap (λ (n : ℕ). getD (loop2 .places) n idle) (behind .ensures .0)) (kept5 .ensures ∙ ap (λ (n : ℕ). getD (loop2 .places) n idle) (behind2 .ensures .0)) (kept6 .ensures ∙ ap (λ (n : ℕ). getD (loop2 .places) n idle) (behind3 .ensures .0)) (idle-place2 .ensures))
 
 opens-requires : tie.Need-opens-requires Inv-loop2 μ-loop2 Inv-loop3 μ-loop3 Inv-loop μ-loop
 opens-requires c κs = search needs
 
 opened-requires : tie.Need-opened-requires Inv-loop2 μ-loop2 Inv-loop3 μ-loop3 Inv-loop μ-loop
 opened-requires c κs =
-    let lowest = c .before .before .before .before .before .before .before .before .before .before .before .before .before .before .before .before .before .before .before .before .lowest in
+    let lowest = c .before .before .before .before .before .before .before .before .before .before .before .before .before .before .before .before .lowest in
     lowest .ensures .below
 
 free-requires : tie.Need-free-requires Inv-loop2 μ-loop2 Inv-loop3 μ-loop3 Inv-loop μ-loop
@@ -485,7 +471,7 @@ array-set-from-places c = search needs
 open-cover-requires :
     tie.Need-open-cover-requires Inv-loop2 μ-loop2 Inv-loop3 μ-loop3 Inv-loop μ-loop
 open-cover-requires c κs =
-    let lowest = c .before .before .before .before .before .before .before .before .before .before .before .before .before .before .before .before .before .before .before .before .before .before .before .lowest in
+    let lowest = c .before .before .before .before .before .before .before .before .before .before .before .before .before .before .before .before .before .before .before .lowest in
     lowest .ensures .below
 
 with-word-requires :
@@ -495,7 +481,7 @@ with-word-requires c κs = search needs
 open-phantom-requires :
     tie.Need-open-phantom-requires Inv-loop2 μ-loop2 Inv-loop3 μ-loop3 Inv-loop μ-loop
 open-phantom-requires c κs =
-    let lowest = c .before .before .before .before .before .before .before .before .before .before .before .before .before .before .before .before .before .before .before .before .before .before .before .before .before .lowest in
+    let lowest = c .before .before .before .before .before .before .before .before .before .before .before .before .before .before .before .before .before .before .before .before .before .lowest in
     lowest .ensures .below
 
 with-word-requires-2 :
@@ -504,7 +490,7 @@ with-word-requires-2 c κs = search needs
 
 above-requires : tie.Need-above-requires Inv-loop2 μ-loop2 Inv-loop3 μ-loop3 Inv-loop μ-loop
 above-requires c κs =
-    let lowest = c .before .before .before .before .before .before .before .before .before .before .before .before .before .before .before .before .before .before .before .before .lowest in
+    let lowest = c .before .before .before .before .before .before .before .before .before .before .before .before .before .before .before .before .lowest in
     lowest .ensures .below
 
 wanted-requires-2 : tie.Need-wanted-requires-2 Inv-loop2 μ-loop2 Inv-loop3 μ-loop3 Inv-loop μ-loop
@@ -517,21 +503,24 @@ without-lowest-requires c κs = search needs
 twice-requires : tie.Need-twice-requires Inv-loop2 μ-loop2 Inv-loop3 μ-loop3 Inv-loop μ-loop
 twice-requires c κs = search needs
 
+marked-requires : tie.Need-marked-requires Inv-loop2 μ-loop2 Inv-loop3 μ-loop3 Inv-loop μ-loop
+marked-requires c κs =
+    let lowest = c .before .before .before .before .before .before .before .before .lowest in
+    lowest .ensures .below
+
+agreement-of-requires :
+    tie.Need-agreement-of-requires Inv-loop2 μ-loop2 Inv-loop3 μ-loop3 Inv-loop μ-loop
+agreement-of-requires c κs =
+    let lowest = c .before .before .before .before .before .before .before .before .before .before .lowest in
+    lowest .ensures .below
+
 marked-requires-2 : tie.Need-marked-requires-2 Inv-loop2 μ-loop2 Inv-loop3 μ-loop3 Inv-loop μ-loop
-marked-requires-2 c κs = search needs
-
-voices-of-requires :
-    tie.Need-voices-of-requires Inv-loop2 μ-loop2 Inv-loop3 μ-loop3 Inv-loop μ-loop
-voices-of-requires c κs = search needs
-
-marked-requires-3 : tie.Need-marked-requires-3 Inv-loop2 μ-loop2 Inv-loop3 μ-loop3 Inv-loop μ-loop
-marked-requires-3 c κs = search needs
+marked-requires-2 c κs =
+    let lowest = c .before .before .before .before .before .before .before .before .before .before .before .lowest in
+    lowest .ensures .below
 
 array-copy-out-q : tie.Need-array-copy-out-q Inv-loop2 μ-loop2 Inv-loop3 μ-loop3 Inv-loop μ-loop
 array-copy-out-q c = search needs
-
-any3-requires : tie.Need-any3-requires Inv-loop2 μ-loop2 Inv-loop3 μ-loop3 Inv-loop μ-loop
-any3-requires c κs = search needs
 
 heard-requires : tie.Need-heard-requires Inv-loop2 μ-loop2 Inv-loop3 μ-loop3 Inv-loop μ-loop
 heard-requires c κs = search needs
@@ -540,15 +529,14 @@ array-set-from-places-2 :
     tie.Need-array-set-from-places-2 Inv-loop2 μ-loop2 Inv-loop3 μ-loop3 Inv-loop μ-loop
 array-set-from-places-2 c = search needs
 
-marked-requires-4 : tie.Need-marked-requires-4 Inv-loop2 μ-loop2 Inv-loop3 μ-loop3 Inv-loop μ-loop
-marked-requires-4 c κs = search needs
+marked-requires-3 : tie.Need-marked-requires-3 Inv-loop2 μ-loop2 Inv-loop3 μ-loop3 Inv-loop μ-loop
+marked-requires-3 c κs =
+    let lowest = c .before .before .before .before .before .before .before .before .before .before .before .before .before .lowest in
+    lowest .ensures .below
 
 array-copy-out-q-2 :
     tie.Need-array-copy-out-q-2 Inv-loop2 μ-loop2 Inv-loop3 μ-loop3 Inv-loop μ-loop
 array-copy-out-q-2 c = search needs
-
-any3-requires-2 : tie.Need-any3-requires-2 Inv-loop2 μ-loop2 Inv-loop3 μ-loop3 Inv-loop μ-loop
-any3-requires-2 c κs = search needs
 
 heard-requires-2 : tie.Need-heard-requires-2 Inv-loop2 μ-loop2 Inv-loop3 μ-loop3 Inv-loop μ-loop
 heard-requires-2 c κs = search needs
@@ -557,15 +545,14 @@ array-set-from-places-3 :
     tie.Need-array-set-from-places-3 Inv-loop2 μ-loop2 Inv-loop3 μ-loop3 Inv-loop μ-loop
 array-set-from-places-3 c = search needs
 
-marked-requires-5 : tie.Need-marked-requires-5 Inv-loop2 μ-loop2 Inv-loop3 μ-loop3 Inv-loop μ-loop
-marked-requires-5 c κs = search needs
+marked-requires-4 : tie.Need-marked-requires-4 Inv-loop2 μ-loop2 Inv-loop3 μ-loop3 Inv-loop μ-loop
+marked-requires-4 c κs =
+    let lowest = c .before .before .before .before .before .before .before .before .before .before .before .before .before .before .before .lowest in
+    lowest .ensures .below
 
 array-copy-out-q-3 :
     tie.Need-array-copy-out-q-3 Inv-loop2 μ-loop2 Inv-loop3 μ-loop3 Inv-loop μ-loop
 array-copy-out-q-3 c = search needs
-
-any3-requires-3 : tie.Need-any3-requires-3 Inv-loop2 μ-loop2 Inv-loop3 μ-loop3 Inv-loop μ-loop
-any3-requires-3 c κs = search needs
 
 heard-requires-3 : tie.Need-heard-requires-3 Inv-loop2 μ-loop2 Inv-loop3 μ-loop3 Inv-loop μ-loop
 heard-requires-3 c κs = search needs
@@ -574,15 +561,14 @@ array-set-from-places-4 :
     tie.Need-array-set-from-places-4 Inv-loop2 μ-loop2 Inv-loop3 μ-loop3 Inv-loop μ-loop
 array-set-from-places-4 c = search needs
 
-marked-requires-6 : tie.Need-marked-requires-6 Inv-loop2 μ-loop2 Inv-loop3 μ-loop3 Inv-loop μ-loop
-marked-requires-6 c κs = search needs
+marked-requires-5 : tie.Need-marked-requires-5 Inv-loop2 μ-loop2 Inv-loop3 μ-loop3 Inv-loop μ-loop
+marked-requires-5 c κs =
+    let lowest = c .before .before .before .before .before .before .before .before .before .before .before .before .before .before .before .before .before .lowest in
+    lowest .ensures .below
 
 array-copy-out-q-4 :
     tie.Need-array-copy-out-q-4 Inv-loop2 μ-loop2 Inv-loop3 μ-loop3 Inv-loop μ-loop
 array-copy-out-q-4 c = search needs
-
-any3-requires-4 : tie.Need-any3-requires-4 Inv-loop2 μ-loop2 Inv-loop3 μ-loop3 Inv-loop μ-loop
-any3-requires-4 c κs = search needs
 
 heard-requires-4 : tie.Need-heard-requires-4 Inv-loop2 μ-loop2 Inv-loop3 μ-loop3 Inv-loop μ-loop
 heard-requires-4 c κs = search needs
@@ -594,11 +580,15 @@ array-set-from-places-5 c = search needs
 any-word-requires : tie.Need-any-word-requires Inv-loop2 μ-loop2 Inv-loop3 μ-loop3 Inv-loop μ-loop
 any-word-requires c κs = search needs
 
-marked-requires-7 : tie.Need-marked-requires-7 Inv-loop2 μ-loop2 Inv-loop3 μ-loop3 Inv-loop μ-loop
-marked-requires-7 c κs = search needs
+marked-requires-6 : tie.Need-marked-requires-6 Inv-loop2 μ-loop2 Inv-loop3 μ-loop3 Inv-loop μ-loop
+marked-requires-6 c κs =
+    let lowest = c .before .before .before .before .before .before .before .before .before .before .before .lowest in
+    lowest .ensures .below
 
 which-requires : tie.Need-which-requires Inv-loop2 μ-loop2 Inv-loop3 μ-loop3 Inv-loop μ-loop
-which-requires c κs = search needs
+which-requires c κs =
+    let lowest = c .before .before .before .before .before .before .before .before .before .before .before .before .before .lowest in
+    lowest .ensures .below
 
 mul-q : tie.Need-mul-q Inv-loop2 μ-loop2 Inv-loop3 μ-loop3 Inv-loop μ-loop
 mul-q c = search needs
@@ -627,75 +617,74 @@ loop2-less-3 : tie.Need-loop2-less-3 Inv-loop2 μ-loop2 Inv-loop3 μ-loop3 Inv-l
 loop2-less-3 c =
     let if7 = c .if7 in
     let if4 = c .before .before .before .if4 in
-    let tick-of = c .before .before .before .before .before .before .before .before .before .before .tick-of in
-    let lowest = c .before .before .before .before .before .before .before .before .before .before .before .lowest in
-    let loop2 = c .before .before .before .before .before .before .before .before .before .before .before .before .before .loop2 in
-    let span-of = c .before .before .before .before .before .before .before .before .before .before .before .before .before .before .before .before .before .before .before .before .before .span-of in
-    let block-length = c .before .before .before .before .before .before .before .before .before .before .before .before .before .before .before .before .before .before .before .before .before .before .before .before .before .before .before .block-length in
-    let loop = c .before .before .before .before .before .before .before .before .before .before .before .before .before .before .before .before .before .before .before .before .before .before .before .before .before .before .before .before .before .loop in
-    let args = c .before .before .before .before .before .before .before .before .before .before .before .before .before .before .before .before .before .before .before .before .before .before .before .before .before .before .before .before .before .before .before .before .before .before .before .before .before .args in
+    let tick-of = c .before .before .before .before .before .before .before .before .before .tick-of in
+    let lowest = c .before .before .before .before .before .before .before .before .before .before .lowest in
+    let loop2 = c .before .before .before .before .before .before .before .before .before .before .before .before .loop2 in
+    let span-of = c .before .before .before .before .before .before .before .before .before .before .before .before .before .before .before .before .before .before .before .before .span-of in
+    let block-length = c .before .before .before .before .before .before .before .before .before .before .before .before .before .before .before .before .before .before .before .before .before .before .before .before .before .before .block-length in
+    let loop = c .before .before .before .before .before .before .before .before .before .before .before .before .before .before .before .before .before .before .before .before .before .before .before .before .before .before .before .before .loop in
+    let args = c .before .before .before .before .before .before .before .before .before .before .before .before .before .before .before .before .before .before .before .before .before .before .before .before .before .before .before .before .before .before .before .before .before .before .before .before .args in
     turn-taken (loop2 .from) (lowest .result) (loop2 .places) (if7 .places) (loop2 .risk) (if4 .risk) (first-from (machineIn (loop .places) (loop .counts)) (span-of .result) (block-length .result) _ (args .recent .now) (args .base) (args .values .now) (loop .at) (loop .out) (loop2 .out) (loop2 .places) (loop2 .on) (loop2 .risk) (loop2 .counts) (loop2 .at) (loop2 .todo) (loop2 .from) (loop2 .inv) (lowest .result) (tick-of .result) (lowest .ensures) (tick-of .ensures .1)) (lowest .ensures .below)
 
 loop2-again-3 : tie.Need-loop2-again-3 Inv-loop2 μ-loop2 Inv-loop3 μ-loop3 Inv-loop μ-loop
 loop2-again-3 c =
     let if7 = c .if7 in
-    let marked2 = c .before .marked2 in
+    let marked = c .before .marked in
     let twice = c .before .before .twice in
     let if4 = c .before .before .before .if4 in
     let framed = c .before .before .before .before .framed in
-    let pulse-at = c .before .before .before .before .before .pulse-at in
-    let marked = c .before .before .before .before .before .before .marked in
-    let if3 = c .before .before .before .before .before .before .before .if3 in
-    let is-over = c .before .before .before .before .before .before .before .before .is-over in
-    let tick-of = c .before .before .before .before .before .before .before .before .before .before .tick-of in
-    let lowest = c .before .before .before .before .before .before .before .before .before .before .before .lowest in
-    let loop2 = c .before .before .before .before .before .before .before .before .before .before .before .before .before .loop2 in
-    let top = c .before .before .before .before .before .before .before .before .before .before .before .before .before .before .before .before .before .before .before .before .top in
-    let span-of = c .before .before .before .before .before .before .before .before .before .before .before .before .before .before .before .before .before .before .before .before .before .span-of in
-    let block-length = c .before .before .before .before .before .before .before .before .before .before .before .before .before .before .before .before .before .before .before .before .before .before .before .before .before .before .before .block-length in
-    let loop = c .before .before .before .before .before .before .before .before .before .before .before .before .before .before .before .before .before .before .before .before .before .before .before .before .before .before .before .before .before .loop in
-    let args = c .before .before .before .before .before .before .before .before .before .before .before .before .before .before .before .before .before .before .before .before .before .before .before .before .before .before .before .before .before .before .before .before .before .before .before .before .before .args in
+    let edge-at = c .before .before .before .before .before .edge-at in
+    let if3 = c .before .before .before .before .before .before .if3 in
+    let is-over = c .before .before .before .before .before .before .before .is-over in
+    let tick-of = c .before .before .before .before .before .before .before .before .before .tick-of in
+    let lowest = c .before .before .before .before .before .before .before .before .before .before .lowest in
+    let loop2 = c .before .before .before .before .before .before .before .before .before .before .before .before .loop2 in
+    let top = c .before .before .before .before .before .before .before .before .before .before .before .before .before .before .before .before .before .before .before .top in
+    let span-of = c .before .before .before .before .before .before .before .before .before .before .before .before .before .before .before .before .before .before .before .before .span-of in
+    let block-length = c .before .before .before .before .before .before .before .before .before .before .before .before .before .before .before .before .before .before .before .before .before .before .before .before .before .before .block-length in
+    let loop = c .before .before .before .before .before .before .before .before .before .before .before .before .before .before .before .before .before .before .before .before .before .before .before .before .before .before .before .before .loop in
+    let args = c .before .before .before .before .before .before .before .before .before .before .before .before .before .before .before .before .before .before .before .before .before .before .before .before .before .before .before .before .before .before .before .before .before .before .before .before .args in
     let size : length (loop2 .places) ≡ 4 = loop2 .inv .size in
-    let stood : Stood (span-of .result) (lowest .result) (tick-of .result) (args .recent .now) (args .base) (args .values .now) (framed .result) (framed .ensures) (block-length .result) (pulse-at .result) (loop2 .places) (loop2 .on) (loop2 .risk) (loop2 .counts) (loop2 .todo) (loop2 .from) (loop2 .inv .todos) (lowest .ensures) (if4 .places) (if4 .on) (if4 .risk) (if4 .counts) (if4 .todo) =
+    let stood : Stood (span-of .result) (lowest .result) (tick-of .result) (args .recent .now) (args .base) (args .values .now) (framed .result) (framed .ensures) (block-length .result) (edge-at .result) (loop2 .places) (loop2 .on) (loop2 .risk) (loop2 .counts) (loop2 .todo) (loop2 .from) (loop2 .inv .todos) (lowest .ensures) (if4 .places) (if4 .on) (if4 .risk) (if4 .counts) (if4 .todo) =
     either (if4 .came)
-    (λ w. stood-framed (span-of .result) (lowest .result) (tick-of .result) (args .recent .now) (args .base) (args .values .now) (framed .result) (framed .ensures) (block-length .result) (pulse-at .result) (loop2 .places) (loop2 .on) (loop2 .risk) (loop2 .counts) (loop2 .todo) (loop2 .from) (loop2 .inv .todos) (lowest .ensures) (w .4 .result)
-    (second-as (span-of .result) (lowest .result) (tick-of .result) (args .recent .now) (args .base) (args .values .now) (framed .result) (framed .ensures) (w .0 .taken) (w .3 .result) (w .3 .ensures) (w .1 .result) (w .1 .ensures .0) (w .4 .result) (w .4 .ensures))
-    (if4 .places) (if4 .on) (if4 .risk) (if4 .counts) (if4 .todo) (top .result) (w .13 .result) (w .14 .result) (w .12 .places) (w .12 .on) (w .12 .risk) (w .8 .result)
-    (either (w .12 .came)
-    (λ v. framed-as (loop2 .places) (loop2 .on) (loop2 .risk) (loop2 .counts) (lowest .result) (pulse-at .result) (w .4 .result) _ (w .12 .places) (v .5 .result) (w .12 .on) (v .7 .result) (w .12 .risk) (w .8 .result)
-    (framed-opens (loop2 .places) (loop2 .on) (loop2 .risk) (loop2 .counts) (lowest .result) (pulse-at .result) (w .4 .result) size (lowest .ensures .below) (omega (arith, ap (λ (q : Pulse). q .tick .0) (w .4 .ensures), tick-of .ensures .0, w .1 .ensures .1)) (w .5 .result) (w .5 .ensures) (w .6 .result) (w .6 .ensures) (w .7 .result) (w .7 .ensures) (w .9 .result) (w .9 .ensures) (λ z. omega (arith, w .10 .left)) (w .8 .result) (w .8 .ensures) (w .11 .result) (w .11 .ensures) (v .0 .taken) (v .1 .result) (v .1 .ensures) (v .3 .result) (v .3 .ensures .0) (v .3 .ensures .1) (v .4 .result) (v .6 .result) (v .4 .ensures) (v .6 .ensures) (v .5 .result) (v .7 .result) (v .5 .ensures) (v .7 .ensures) _ refl) (v .8) (v .9) (v .10))
-    (λ v. framed-as (loop2 .places) (loop2 .on) (loop2 .risk) (loop2 .counts) (lowest .result) (pulse-at .result) (w .4 .result) (loop2 .places) (w .12 .places) (loop2 .on) (w .12 .on) (loop2 .risk) (w .12 .risk) (w .8 .result) (framed-shut (loop2 .places) (loop2 .on) (loop2 .risk) (loop2 .counts) (lowest .result) (pulse-at .result) (w .4 .result) size (lowest .ensures .below) (omega (arith, ap (λ (q : Pulse). q .tick .0) (w .4 .ensures), tick-of .ensures .0, w .1 .ensures .1)) (w .5 .result) (w .5 .ensures) (w .6 .result) (w .6 .ensures) (w .7 .result) (w .7 .ensures) (w .9 .result) (w .9 .ensures) (λ z. omega (arith, w .10 .left)) (w .8 .result) (w .8 .ensures) (w .11 .result) (w .11 .ensures) (v .0 .left)) (v .1) (v .2) (v .3)))
-    (top .ensures) (w .13 .ensures) (w .14 .ensures) (w .15) (w .16) (w .17) (w .18) (w .19))
-    (λ w. stood-plain (span-of .result) (lowest .result) (tick-of .result) (args .recent .now) (args .base) (args .values .now) (framed .result) (framed .ensures) (block-length .result) (pulse-at .result) (loop2 .places) (loop2 .on) (loop2 .risk) (loop2 .counts) (loop2 .todo) (loop2 .from) (loop2 .inv .todos) (lowest .ensures) (w .0 .left) (if4 .places) (if4 .on) (if4 .risk) (if4 .counts) (if4 .todo) (w .1 .result) (w .1 .ensures) (w .2) (w .3) (w .4) (w .5) (w .6)) in
-    let dealt : Dealt (if4 .places) (if4 .on) (lowest .result) (pulse-at .result) (if7 .places) =
+    (λ w. stood-framed (span-of .result) (lowest .result) (tick-of .result) (args .recent .now) (args .base) (args .values .now) (framed .result) (framed .ensures) (block-length .result) (edge-at .result) (loop2 .places) (loop2 .on) (loop2 .risk) (loop2 .counts) (loop2 .todo) (loop2 .from) (loop2 .inv .todos) (lowest .ensures) (w .1 .result)
+    (second-as (span-of .result) (lowest .result) (tick-of .result) (args .recent .now) (args .base) (args .values .now) (framed .result) (framed .ensures) (w .0 .taken) (w .1 .result) (w .1 .ensures))
+    (if4 .places) (if4 .on) (if4 .risk) (if4 .counts) (if4 .todo) (top .result) (w .10 .result) (w .11 .result) (w .9 .places) (w .9 .on) (w .9 .risk) (w .5 .result)
+    (either (w .9 .came)
+    (λ v. framed-as (loop2 .places) (loop2 .on) (loop2 .risk) (loop2 .counts) (lowest .result) (edge-at .result) (w .1 .result) _ (w .9 .places) (v .5 .result) (w .9 .on) (v .7 .result) (w .9 .risk) (w .5 .result)
+    (framed-opens (loop2 .places) (loop2 .on) (loop2 .risk) (loop2 .counts) (lowest .result) (edge-at .result) (w .1 .result) size (lowest .ensures .below) (omega (arith, ap (λ (q : Pulse). q .tick .0) (w .1 .ensures), second-low (span-of .result) (lowest .result), tick-of .ensures .0)) (w .2 .result) (w .2 .ensures) (w .3 .result) (w .3 .ensures) (w .4 .result) (w .4 .ensures) (w .6 .result) (w .6 .ensures) (λ z. omega (arith, w .7 .left)) (w .5 .result) (w .5 .ensures) (w .8 .result) (w .8 .ensures) (v .0 .taken) (v .1 .result) (v .1 .ensures) (v .3 .result) (v .3 .ensures .0) (v .3 .ensures .1) (v .4 .result) (v .6 .result) (v .4 .ensures) (v .6 .ensures) (v .5 .result) (v .7 .result) (v .5 .ensures) (v .7 .ensures) _ refl) (v .8) (v .9) (v .10))
+    (λ v. framed-as (loop2 .places) (loop2 .on) (loop2 .risk) (loop2 .counts) (lowest .result) (edge-at .result) (w .1 .result) (loop2 .places) (w .9 .places) (loop2 .on) (w .9 .on) (loop2 .risk) (w .9 .risk) (w .5 .result) (framed-shut (loop2 .places) (loop2 .on) (loop2 .risk) (loop2 .counts) (lowest .result) (edge-at .result) (w .1 .result) size (lowest .ensures .below) (omega (arith, ap (λ (q : Pulse). q .tick .0) (w .1 .ensures), second-low (span-of .result) (lowest .result), tick-of .ensures .0)) (w .2 .result) (w .2 .ensures) (w .3 .result) (w .3 .ensures) (w .4 .result) (w .4 .ensures) (w .6 .result) (w .6 .ensures) (λ z. omega (arith, w .7 .left)) (w .5 .result) (w .5 .ensures) (w .8 .result) (w .8 .ensures) (v .0 .left)) (v .1) (v .2) (v .3)))
+    (top .ensures) (w .10 .ensures) (w .11 .ensures) (w .12) (w .13) (w .14) (w .15) (w .16))
+    (λ w. stood-plain (span-of .result) (lowest .result) (tick-of .result) (args .recent .now) (args .base) (args .values .now) (framed .result) (framed .ensures) (block-length .result) (edge-at .result) (loop2 .places) (loop2 .on) (loop2 .risk) (loop2 .counts) (loop2 .todo) (loop2 .from) (loop2 .inv .todos) (lowest .ensures) (w .0 .left) (if4 .places) (if4 .on) (if4 .risk) (if4 .counts) (if4 .todo) (w .1 .result) (w .1 .ensures) (w .2) (w .3) (w .4) (w .5) (w .6)) in
+    let dealt : Dealt (if4 .places) (if4 .on) (lowest .result) (edge-at .result) (if7 .places) =
     either (if7 .came)
-    (λ w. (subst (λ (m : List Place). Dealt (if4 .places) (if4 .on) (lowest .result) (pulse-at .result) m) (sym (w .13)) (deals-four (if4 .places) (w .3 .places) (w .5 .places) (w .7 .places) (set (w .7 .places) 3 (w .12 .result)) (if4 .on) (lowest .result) (pulse-at .result) (stood .size ∙ size) (w .2 .result) (w .4 .result) (w .6 .result) (w .8 .result) (w .2 .ensures) (w .4 .ensures) (w .6 .ensures) (w .8 .ensures) (w .1 .result) (w .1 .ensures)
+    (λ w. (subst (λ (m : List Place). Dealt (if4 .places) (if4 .on) (lowest .result) (edge-at .result) m) (sym (w .12)) (deals-four (if4 .places) (w .3 .places) (w .5 .places) (w .7 .places) (set (w .7 .places) 3 (w .11 .result)) (if4 .on) (lowest .result) (edge-at .result) (stood .size ∙ size) (w .2 .result) (w .4 .result) (w .6 .result) (w .8 .result) (w .2 .ensures) (w .4 .ensures) (w .6 .ensures) (w .8 .ensures) (w .1 .result) (w .1 .ensures)
     (either (w .3 .came)
-    (λ z. turns-did (w .2 .result) 0 (pulse-at .result) (w .1 .result .a) (any3 (w .1 .result .b) (w .1 .result .c) (w .1 .result .d)) (z .2 .result) (if4 .places) (w .3 .places) (z .3 .result) (z .0 .taken) (z .4) (z .3 .ensures) (z .2 .ensures))
-    (λ z. turns-not (w .2 .result) 0 (pulse-at .result) (w .1 .result .a) (any3 (w .1 .result .b) (w .1 .result .c) (w .1 .result .d)) (if4 .places) (w .3 .places) (z .0 .left) (z .1)))
+    (λ z. turns-did (w .2 .result) 0 (edge-at .result) (w .1 .result .own .a) (w .1 .result .other .a) (if4 .places) (w .3 .places) (z .2 .result) (z .0 .taken) (z .3) (z .2 .ensures))
+    (λ z. turns-not (w .2 .result) 0 (edge-at .result) (w .1 .result .own .a) (w .1 .result .other .a) (if4 .places) (w .3 .places) (z .0 .left) (z .1)))
     (either (w .5 .came)
-    (λ z. turns-did (w .4 .result) 1 (pulse-at .result) (w .1 .result .b) (any3 (w .1 .result .a) (w .1 .result .c) (w .1 .result .d)) (z .2 .result) (w .3 .places) (w .5 .places) (z .3 .result) (z .0 .taken) (z .4) (z .3 .ensures) (z .2 .ensures))
-    (λ z. turns-not (w .4 .result) 1 (pulse-at .result) (w .1 .result .b) (any3 (w .1 .result .a) (w .1 .result .c) (w .1 .result .d)) (w .3 .places) (w .5 .places) (z .0 .left) (z .1)))
+    (λ z. turns-did (w .4 .result) 1 (edge-at .result) (w .1 .result .own .b) (w .1 .result .other .b) (w .3 .places) (w .5 .places) (z .2 .result) (z .0 .taken) (z .3) (z .2 .ensures))
+    (λ z. turns-not (w .4 .result) 1 (edge-at .result) (w .1 .result .own .b) (w .1 .result .other .b) (w .3 .places) (w .5 .places) (z .0 .left) (z .1)))
     (either (w .7 .came)
-    (λ z. turns-did (w .6 .result) 2 (pulse-at .result) (w .1 .result .c) (any3 (w .1 .result .a) (w .1 .result .b) (w .1 .result .d)) (z .2 .result) (w .5 .places) (w .7 .places) (z .3 .result) (z .0 .taken) (z .4) (z .3 .ensures) (z .2 .ensures))
-    (λ z. turns-not (w .6 .result) 2 (pulse-at .result) (w .1 .result .c) (any3 (w .1 .result .a) (w .1 .result .b) (w .1 .result .d)) (w .5 .places) (w .7 .places) (z .0 .left) (z .1)))
-    (turns-did (w .8 .result) 3 (pulse-at .result) (w .1 .result .d) (any3 (w .1 .result .a) (w .1 .result .b) (w .1 .result .c)) (w .11 .result) (w .7 .places) (set (w .7 .places) 3 (w .12 .result)) (w .12 .result) (w .9 .taken) refl (w .12 .ensures) (w .11 .ensures)))))
+    (λ z. turns-did (w .6 .result) 2 (edge-at .result) (w .1 .result .own .c) (w .1 .result .other .c) (w .5 .places) (w .7 .places) (z .2 .result) (z .0 .taken) (z .3) (z .2 .ensures))
+    (λ z. turns-not (w .6 .result) 2 (edge-at .result) (w .1 .result .own .c) (w .1 .result .other .c) (w .5 .places) (w .7 .places) (z .0 .left) (z .1)))
+    (turns-did (w .8 .result) 3 (edge-at .result) (w .1 .result .own .d) (w .1 .result .other .d) (w .7 .places) (set (w .7 .places) 3 (w .11 .result)) (w .11 .result) (w .9 .taken) refl (w .11 .ensures)))))
     (λ x. either x
-    (λ w. (subst (λ (m : List Place). Dealt (if4 .places) (if4 .on) (lowest .result) (pulse-at .result) m) (sym (w .10)) (deals-four (if4 .places) (w .3 .places) (w .5 .places) (w .7 .places) (w .7 .places) (if4 .on) (lowest .result) (pulse-at .result) (stood .size ∙ size) (w .2 .result) (w .4 .result) (w .6 .result) (w .8 .result) (w .2 .ensures) (w .4 .ensures) (w .6 .ensures) (w .8 .ensures) (w .1 .result) (w .1 .ensures)
+    (λ w. (subst (λ (m : List Place). Dealt (if4 .places) (if4 .on) (lowest .result) (edge-at .result) m) (sym (w .10)) (deals-four (if4 .places) (w .3 .places) (w .5 .places) (w .7 .places) (w .7 .places) (if4 .on) (lowest .result) (edge-at .result) (stood .size ∙ size) (w .2 .result) (w .4 .result) (w .6 .result) (w .8 .result) (w .2 .ensures) (w .4 .ensures) (w .6 .ensures) (w .8 .ensures) (w .1 .result) (w .1 .ensures)
     (either (w .3 .came)
-    (λ z. turns-did (w .2 .result) 0 (pulse-at .result) (w .1 .result .a) (any3 (w .1 .result .b) (w .1 .result .c) (w .1 .result .d)) (z .2 .result) (if4 .places) (w .3 .places) (z .3 .result) (z .0 .taken) (z .4) (z .3 .ensures) (z .2 .ensures))
-    (λ z. turns-not (w .2 .result) 0 (pulse-at .result) (w .1 .result .a) (any3 (w .1 .result .b) (w .1 .result .c) (w .1 .result .d)) (if4 .places) (w .3 .places) (z .0 .left) (z .1)))
+    (λ z. turns-did (w .2 .result) 0 (edge-at .result) (w .1 .result .own .a) (w .1 .result .other .a) (if4 .places) (w .3 .places) (z .2 .result) (z .0 .taken) (z .3) (z .2 .ensures))
+    (λ z. turns-not (w .2 .result) 0 (edge-at .result) (w .1 .result .own .a) (w .1 .result .other .a) (if4 .places) (w .3 .places) (z .0 .left) (z .1)))
     (either (w .5 .came)
-    (λ z. turns-did (w .4 .result) 1 (pulse-at .result) (w .1 .result .b) (any3 (w .1 .result .a) (w .1 .result .c) (w .1 .result .d)) (z .2 .result) (w .3 .places) (w .5 .places) (z .3 .result) (z .0 .taken) (z .4) (z .3 .ensures) (z .2 .ensures))
-    (λ z. turns-not (w .4 .result) 1 (pulse-at .result) (w .1 .result .b) (any3 (w .1 .result .a) (w .1 .result .c) (w .1 .result .d)) (w .3 .places) (w .5 .places) (z .0 .left) (z .1)))
+    (λ z. turns-did (w .4 .result) 1 (edge-at .result) (w .1 .result .own .b) (w .1 .result .other .b) (w .3 .places) (w .5 .places) (z .2 .result) (z .0 .taken) (z .3) (z .2 .ensures))
+    (λ z. turns-not (w .4 .result) 1 (edge-at .result) (w .1 .result .own .b) (w .1 .result .other .b) (w .3 .places) (w .5 .places) (z .0 .left) (z .1)))
     (either (w .7 .came)
-    (λ z. turns-did (w .6 .result) 2 (pulse-at .result) (w .1 .result .c) (any3 (w .1 .result .a) (w .1 .result .b) (w .1 .result .d)) (z .2 .result) (w .5 .places) (w .7 .places) (z .3 .result) (z .0 .taken) (z .4) (z .3 .ensures) (z .2 .ensures))
-    (λ z. turns-not (w .6 .result) 2 (pulse-at .result) (w .1 .result .c) (any3 (w .1 .result .a) (w .1 .result .b) (w .1 .result .d)) (w .5 .places) (w .7 .places) (z .0 .left) (z .1)))
-    (turns-not (w .8 .result) 3 (pulse-at .result) (w .1 .result .d) (any3 (w .1 .result .a) (w .1 .result .b) (w .1 .result .c)) (w .7 .places) (w .7 .places) (w .9 .left) refl))))
+    (λ z. turns-did (w .6 .result) 2 (edge-at .result) (w .1 .result .own .c) (w .1 .result .other .c) (w .5 .places) (w .7 .places) (z .2 .result) (z .0 .taken) (z .3) (z .2 .ensures))
+    (λ z. turns-not (w .6 .result) 2 (edge-at .result) (w .1 .result .own .c) (w .1 .result .other .c) (w .5 .places) (w .7 .places) (z .0 .left) (z .1)))
+    (turns-not (w .8 .result) 3 (edge-at .result) (w .1 .result .own .d) (w .1 .result .other .d) (w .7 .places) (w .7 .places) (w .9 .left) refl))))
     (λ y. either y
-    (λ w. (subst (λ (m : List Place). Dealt (if4 .places) (if4 .on) (lowest .result) (pulse-at .result) m) (sym (w .8)) (deals-one (if4 .places) (if4 .on) (lowest .result) (pulse-at .result) (stood .size ∙ size) (twice .result) (w .1 .result) (w .4 .result) (marked2 .result) (w .2 .result) (w .6 .result) (w .7 .result) (twice .ensures) (marked2 .ensures) (w .0 .left) (w .1 .ensures) (w .2 .ensures) (w .3 .taken) (w .4 .ensures .0) (w .6 .ensures) (w .7 .ensures))))
-    (λ w. (subst (λ (m : List Place). Dealt (if4 .places) (if4 .on) (lowest .result) (pulse-at .result) m) (sym (w .4)) (deals-none (if4 .places) (if4 .on) (lowest .result) (pulse-at .result) (stood .size ∙ size) (w .1 .result) (w .2 .result) (w .1 .ensures) (w .2 .ensures) (w .3 .left)))))) in
-    work-taken (machineIn (loop .places) (loop .counts)) (span-of .result) (block-length .result) _ (args .recent .now) (args .base) (args .values .now) (loop .at) (loop .out) (loop2 .out) (loop2 .places) (loop2 .on) (loop2 .risk) (loop2 .counts) (loop2 .at) (loop2 .todo) (loop2 .from) (loop2 .inv) (lowest .result) (tick-of .result) (lowest .ensures) (tick-of .ensures .1) (is-over .result) (is-over .ensures) (if3 .left) (pulse-at .result) (pulse-as (span-of .result .main) (lowest .result) (tick-of .result) (args .recent .now) (args .base) (args .values .now) (marked .result) (pulse-at .result) (marked .ensures) (pulse-at .ensures)) (bracketIn (span-of .result) (lowest .result) (tick-of .result) (args .recent .now) (args .base) (args .values .now)) refl (if7 .places) (if4 .on) (if4 .risk) (if4 .counts) (stood .visits (if7 .places) (dealt .deal)) (if4 .todo) (stood .todos) (dealt .size ∙ stood .size ∙ size)
+    (λ w. (subst (λ (m : List Place). Dealt (if4 .places) (if4 .on) (lowest .result) (edge-at .result) m) (sym (w .8)) (deals-one (if4 .places) (if4 .on) (lowest .result) (edge-at .result) (stood .size ∙ size) (twice .result) (w .1 .result) (w .4 .result) (marked .result) (w .2 .result) (w .6 .result) (w .7 .result) (twice .ensures) (marked .ensures) (w .0 .left) (w .1 .ensures) (w .2 .ensures) (w .3 .taken) (w .4 .ensures .0) (w .6 .ensures) (w .7 .ensures))))
+    (λ w. (subst (λ (m : List Place). Dealt (if4 .places) (if4 .on) (lowest .result) (edge-at .result) m) (sym (w .4)) (deals-none (if4 .places) (if4 .on) (lowest .result) (edge-at .result) (stood .size ∙ size) (w .1 .result) (w .2 .result) (w .1 .ensures) (w .2 .ensures) (w .3 .left)))))) in
+    work-taken (machineIn (loop .places) (loop .counts)) (span-of .result) (block-length .result) _ (args .recent .now) (args .base) (args .values .now) (loop .at) (loop .out) (loop2 .out) (loop2 .places) (loop2 .on) (loop2 .risk) (loop2 .counts) (loop2 .at) (loop2 .todo) (loop2 .from) (loop2 .inv) (lowest .result) (tick-of .result) (lowest .ensures) (tick-of .ensures .1) (is-over .result) (is-over .ensures) (if3 .left) (edge-at .result) (edge-at .ensures) (bracketIn (span-of .result) (lowest .result) (tick-of .result) (args .recent .now) (args .base) (args .values .now)) refl (if7 .places) (if4 .on) (if4 .risk) (if4 .counts) (stood .visits (if7 .places) (dealt .deal)) (if4 .todo) (stood .todos) (dealt .size ∙ stood .size ∙ size)
 
 loop3-holds : tie.Need-loop3-holds Inv-loop2 μ-loop2 Inv-loop3 μ-loop3 Inv-loop μ-loop
 loop3-holds c =
@@ -750,8 +739,8 @@ array-copy-out-hand-one-2 :
     tie.Need-array-copy-out-hand-one-2 Inv-loop2 μ-loop2 Inv-loop3 μ-loop3 Inv-loop μ-loop
 array-copy-out-hand-one-2 c = search needs
 
-sub-t156 : tie.Need-sub-t156 Inv-loop2 μ-loop2 Inv-loop3 μ-loop3 Inv-loop μ-loop
-sub-t156 c =
+sub-t149 : tie.Need-sub-t149 Inv-loop2 μ-loop2 Inv-loop3 μ-loop3 Inv-loop μ-loop
+sub-t149 c =
     let if13 = c .before .if13 in
     let none-due2 = c .before .before .none-due2 in
     let loop3 = c .before .before .before .before .loop3 in
@@ -829,10 +818,9 @@ returns c =
     let loop = c .before .before .loop in
     let array-of = c .before .before .before .before .array-of in
     let args = c .before .before .before .before .before .before .before .before .before .before .args in
-    let e : array-of .result ≡ args .o .machine .places .p0 ∷ (args .o .machine .places .p1 ∷ (args .o .machine .places .p2 ∷ (args .o .machine .places .p3 ∷ []))) = array-of .ensures in
     let k = feed-end (record { front = args .o .front; machine = machineIn (array-of .result) (args .o .machine .counts); at = args .o .at }) (args .recent .now) (args .base) (args .flags .now) (args .values .now) (args .out .now)
     (loop .out) (record { front = loop .front; machine = machineIn (loop .places) (loop .counts); at = loop .at }) (loop .done) (test1 .left) (loop .inv .1) in
-    subst (λ (l : List Place). BlocksPost (record { front = args .o .front; machine = machineIn l (args .o .machine .counts); at = args .o .at }) (args .recent .now) (args .base) (args .flags .now) (args .values .now) (args .out .now) (record { front = loop .front; machine = record { places = places-of .result; counts = loop .counts }; at = loop .at }) (loop .out)) e
+    subst (λ (l : List Place). BlocksPost (record { front = args .o .front; machine = machineIn l (args .o .machine .counts); at = args .o .at }) (args .recent .now) (args .base) (args .flags .now) (args .values .now) (args .out .now) (record { front = loop .front; machine = record { places = (places-of .result); counts = loop .counts }; at = loop .at }) (loop .out)) (array-of .ensures)
     (subst (λ (f : Places). BlocksPost (record { front = args .o .front; machine = machineIn (array-of .result) (args .o .machine .counts); at = args .o .at }) (args .recent .now) (args .base) (args .flags .now) (args .values .now) (args .out .now) (record { front = loop .front; machine = record { places = f; counts = loop .counts }; at = loop .at }) (loop .out)) (sym (places-of .ensures)) k)
 
 pub work-spec : {M : Type 1} → statement M
@@ -889,13 +877,9 @@ work-spec =
     without-word-requires-2
     loop2-less
     loop2-again
-    marked-requires
-    pulse-at-requires
+    edge-at-requires
     framed-requires
-    apart-requires
-    add-t78
-    second-main-requires
-    pulse-at-requires-2
+    second-at-requires
     firsts-of-requires
     is-busy-requires
     outcome-of-requires
@@ -931,30 +915,26 @@ work-spec =
     wanted-requires-2
     without-lowest-requires
     twice-requires
+    marked-requires
+    agreement-of-requires
     marked-requires-2
-    voices-of-requires
-    marked-requires-3
     array-copy-out-q
-    any3-requires
     heard-requires
     array-set-from-places-2
-    marked-requires-4
+    marked-requires-3
     array-copy-out-q-2
-    any3-requires-2
     heard-requires-2
     array-set-from-places-3
-    marked-requires-5
+    marked-requires-4
     array-copy-out-q-3
-    any3-requires-3
     heard-requires-3
     array-set-from-places-4
-    marked-requires-6
+    marked-requires-5
     array-copy-out-q-4
-    any3-requires-4
     heard-requires-4
     array-set-from-places-5
     any-word-requires
-    marked-requires-7
+    marked-requires-6
     which-requires
     mul-q
     array-copy-out-q-5
@@ -971,7 +951,7 @@ work-spec =
     loop-less-3
     loop-again-3
     array-copy-out-hand-one-2
-    sub-t156
+    sub-t149
     hand-one-requires-2
     array-copy-out-kept-7
     kept-requires-7
