@@ -1,4 +1,4 @@
-// The machine between pieces: four places in order of F1 with the idle ones last, and the counts. While a piece goes through, the places stand as columns (crate columns).
+// The four places in order of F1, the idle ones last, and the counts.
 ghost use mathlib.Core.Path.{_≡_};
 ghost use mathlib.Core.Bool.{_||_, cond};
 ghost use Rattle.replies.specs.Sums.{wrapped};
