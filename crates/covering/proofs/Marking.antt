@@ -15,7 +15,7 @@ use Rattle.plane.proofs.BitLaws.{bit-and, bit-or, zero-bit}
 use Rattle.places.specs.Places.{test, idle, any3, anyIn}
 use Rattle.places.proofs.PlaceLaws.{any-four}
 use Rattle.covering.specs.declared.Words.{Words}
-use Rattle.covering.specs.Marks.{behindOf, lastOf, leavingBy, four, Marked, withWord, withoutWord, withoutPlace, AnyWord, anyAt, TwiceWord, twoOf, whichOf, lastIn, lastOn}
+use Rattle.covering.specs.Marks.{behindOf, lastOf, four, Marked, withWord, withoutWord, withoutPlace, AnyWord, anyAt, TwiceWord, twoOf, whichOf, lastIn, lastOn}
 
 -- ---- the functions
 
@@ -109,12 +109,3 @@ module _ (w : Words) (i : ℕ) where
 
   pub last-none : bit (w .d) i ≡ false → bit (w .c) i ≡ false → bit (w .b) i ≡ false → bit (w .a) i ≡ false → 4 ≡ lastIn w i
   last-none d′ c′ b′ e = rw (d′, c′, b′, e)
-
-pub leaving-over : (o m : Bool) (n : ℕ) → o ≡ true → 0 ≡ leavingBy o m n
-leaving-over o m n e = rw e
-
-pub leaving-side : (o m : Bool) (n : ℕ) → o ≡ false → m ≡ false → 4 ≡ leavingBy o m n
-leaving-side o m n e f = rw (e, f)
-
-pub leaving-main : (o m : Bool) (n : ℕ) → o ≡ false → m ≡ true → n ≡ leavingBy o m n
-leaving-main o m n e f = rw (e, f)

@@ -77,10 +77,6 @@ lastOf a b c d = cond d 3 (cond c 2 (cond b 1 (cond a 0 4)))
 abbrev pub lastIn : Words → ℕ → ℕ
 lastIn w i = lastOf (bit (w .a) i) (bit (w .b) i) (bit (w .c) i) (bit (w .d) i)
 
--- the first place, if its reply is over; the last phantom, if the bracket has M
-abbrev pub leavingBy : Bool → Bool → ℕ → ℕ
-leavingBy over main last = cond over 0 (cond main last 4)
-
 -- by the places
 abbrev pub lastOn : (Reply → Bool) → List Place → ℕ
 lastOn p l = lastOf (test p (getD l 0 idle)) (test p (getD l 1 idle)) (test p (getD l 2 idle)) (test p (getD l 3 idle))

@@ -254,25 +254,6 @@ no-suspect q t s es = record { at = λ i u l z. zero-bit i ∙ sym (rw es) }
 
 -- ---- one tick
 
--- by d, which is u + 1 - q in 64 bits: less than 256 at the ticks that are covered, and at least 256 before and behind them
-pub covered-by : (q u d g w : ℕ) (r : Bool) → q < 2 ^ 32 → u < 2 ^ 32 → d < 2 ^ 64 → (d + q) % 2 ^ 64 ≡ u + 1 → g ≡ d % 256 → w ≡ coverWord (g / 64 + 1) → r ≡ bit w (g % 64)
-    → (ltb d 256 && r) ≡ coversFrom q u
-covered-by q u d g w r lq lu ld ed eg ew er = go (ltb d 256) refl (leb q (u + 1)) refl
-  where
-    go : (a : Bool) → ltb d 256 ≡ a → (b : Bool) → leb q (u + 1) ≡ b → (a && r) ≡ coversFrom q u
-    go true ea true eb =
-        let h = ltb-true d 256 ea in
-        let l = leb-true q (u + 1) eb in
-        let n : g / 64 + 1 ≡ (d + 64) / 64 = omega arith in
-        let m : g % 64 ≡ (d + 64) % 64 = omega arith in
-        er ∙ ap (λ (z : ℕ). bit z (g % 64)) (ew ∙ ap coverWord n) ∙ ap (bit (coverWord ((d + 64) / 64))) m ∙ row-is (d + 64) ∙ covered-bit q u (d + 64) (omega arith)
-    go true ea false eb = absurd (omega (arith, ltb-true d 256 ea, leb-false q (u + 1) eb))
-    go false ea true eb =
-        let h = ltb-false d 256 ea in
-        let l = leb-true q (u + 1) eb in
-        sym (covers-as q u (u + 65 - q) (omega arith) ∙ sym (cover-all (u + 65 - q)) ∙ cover-out (u + 65 - q) (omega arith))
-    go false ea false eb = sym (not-covered q u (omega (arith, leb-false q (u + 1) eb)))
-
 -- ---- a reply that opens at tick i of the block
 
 abbrev openCover : ℕ → ℕ

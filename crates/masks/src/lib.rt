@@ -96,13 +96,3 @@ pub fn open_phantom(i: u32, suspect: bool) -> u64
     }
     0x7c07c07c07c07c00 << i
 }
-
-// Whether a reply with F1 at q covers u. The ticks from q-1 to q+254 have d from 0 to 255.
-pub fn covered(q: u32, u: u32) -> bool
-    ensures { λ r. ⌜ r ≡ coversFrom q u ⌝ }
-{
-    let d = std::num::wrapping_sub_u64(u as u64 + 1, q as u64);
-    let g = (d % 256) as u32;
-    let w = cover_word(g / 64 + 1);
-    (d < 256) & marked(w, g % 64)
-}

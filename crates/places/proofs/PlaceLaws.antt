@@ -13,8 +13,7 @@ use Rattle.rules.specs.Settings.{Settings}
 use Rattle.rules.specs.Samples.{bit}
 use Rattle.rules.specs.Replies.{f1, position, isPosition, covers, agrees, speaks, verdict, bitOf, takes, heardAt, hear}
 use Rattle.rules.proofs.Truth.{or-left, or-right}
-use Rattle.places.specs.Places.{test, testSlot, anyIn, positionSlot, positionIn, reaches, hearSlotAt, hearAt, hearSlot, hearIn, any3, dealt}
-use Rattle.places.proofs.Steps.{hear-away}
+use Rattle.places.specs.Places.{test, testSlot, anyIn, positionSlot, positionIn, hearSlotAt, hearAt, hearSlot, hearIn, any3, dealt}
 
 -- ---- truth values
 
@@ -100,25 +99,3 @@ module _ (plus : ℕ → ℕ → ℕ) (set : Settings) (e : Pulse) where
       let g2 = hear-by (f .p2) k2 s2 o2 x2 a2 b2 d2 in
       let g3 = hear-by (f .p3) k3 s3 o3 x3 a3 b3 d3 in
       rw (g0, g1, g2, g3, c0, c1, c2, c3, t0, t1, t2, t3)
-
-  slot-away : (o : Bool) (s : Slot) → testSlot (reaches (e .tick .0)) s ≡ false → s ≡ hearSlot plus set e o s
-  slot-away o Idle h = refl
-  slot-away o (Open r) h = ap Open (sym (hear-away plus set e o r h))
-
-  pub deal-quiet : (f : Places) → anyIn (reaches (e .tick .0)) f ≡ false → f ≡ dealt plus set e f
-  unfolding dealt
-  deal-quiet f h =
-      let t = test (reaches (e .tick .0)) in
-      let h₁ = or-right (t (f .p0)) (any3 (t (f .p1)) (t (f .p2)) (t (f .p3))) h in
-      let h₂ = or-right (t (f .p1)) (t (f .p2) || (t (f .p3) || false)) h₁ in
-      let h₃ = or-right (t (f .p2)) (t (f .p3) || false) h₂ in
-      let s0 = test (speaks set e) (f .p0) in
-      let s1 = test (speaks set e) (f .p1) in
-      let s2 = test (speaks set e) (f .p2) in
-      let s3 = test (speaks set e) (f .p3) in
-      λ i. record {
-        p0 = record { slot = slot-away (any3 s1 s2 s3) (f .p0 .slot) (or-left (t (f .p0)) (any3 (t (f .p1)) (t (f .p2)) (t (f .p3))) h) i };
-        p1 = record { slot = slot-away (any3 s0 s2 s3) (f .p1 .slot) (or-left (t (f .p1)) (t (f .p2) || (t (f .p3) || false)) h₁) i };
-        p2 = record { slot = slot-away (any3 s0 s1 s3) (f .p2 .slot) (or-left (t (f .p2)) (t (f .p3) || false) h₂) i };
-        p3 = record { slot = slot-away (any3 s0 s1 s2) (f .p3 .slot) (or-left (t (f .p3)) false h₃) i };
-      }

@@ -23,7 +23,7 @@ use Rattle.rules.proofs.ListLaws.{all-reject, all-append, count-split}
 use Rattle.rules.proofs.Outcomes.{Balanced}
 use Rattle.rules.proofs.Ranges.{cond-most, takes-bit, ranged-opened, in-range}
 use Rattle.replies.specs.Sums.{wrapped}
-use Rattle.places.specs.Places.{isSettling, reaches, stepOn, machineOf}
+use Rattle.places.specs.Places.{stepOn, machineOf}
 use Rattle.places.specs.Post.{Small, Fits, EdgePost}
 use Rattle.places.proofs.Placed.{step-placed}
 
@@ -148,13 +148,3 @@ balanced-small s h k =
       lost = omega (arith, h .fates);
       phantoms = omega (arith, h .fates, h .kept);
     }
-
--- ---- an edge that reaches no open reply
-
-takes-not : (k w : ℕ) → isSettling k ≡ false → takes k w ≡ false
-takes-not k w h = rw h
-
-module _ (plus : ℕ → ℕ → ℕ) (set : Settings) (e : Pulse) where
-  pub hear-away : (other : Bool) (r : Reply) → reaches (e .tick .0) r ≡ false → hear plus set e other r ≡ r
-  unfolding hear reaches
-  hear-away other r h = rw (takes-not (position (f1 r) (e .tick .0)) (r .word .settled) h)

@@ -18,10 +18,6 @@ use Rattle.rules.specs.Settings.{Settings}
 use Rattle.rules.specs.Replies.{Verdict, f1, position, isInside, takes, heardAt, hear, speaks, covers, inside, military, isPhantom}
 use Rattle.rules.specs.Machine.{State, openedBy, fateBy, tally}
 
--- a pulse, from its tick, M and value
-abbrev pub pulseOf : ℕ → Bool → ℕ → Pulse
-pulseOf u main value = record { tick = record { 0 = u }; main = main; value = value }
-
 -- ---- tests on a place, and on the four
 
 -- an idle place passes no test
@@ -48,15 +44,6 @@ positionSlot u (Open r) = position (f1 r) u
 
 abbrev pub positionIn : ℕ → Place → ℕ
 positionIn u x = positionSlot u (x .slot)
-
--- "a position 1 to 14 or 17"
-abbrev pub isSettling : ℕ → Bool
-isSettling k = isInside k || eqb k 17
-
--- an open reply covers u at such a position
-unfoldable pub reaches : ℕ → Reply → Bool
-unfolding position
-reaches u r = isSettling (position (f1 r) u)
 
 -- ---- an edge that goes to the places
 

@@ -4,7 +4,6 @@ ghost use mathlib.Core.Bool.{_||_, cond};
 ghost use Rattle.replies.specs.Sums.{wrapped};
 ghost use Rattle.rules.specs.Machine.{start, openedBy, tally};
 ghost use Rattle.places.specs.Places.{any3 as any3′, noPlaces, machineOf};
-use replies::military;
 use replies::pick;
 use replies::plus;
 use replies::wide;

@@ -72,17 +72,6 @@ pub all-open : (u : ℕ) (l : List Reply) → InOrder l → test (ended u) (plac
 all-open u [] o e = tt
 all-open u (r ∷ l) o e = none-due u r l o e
 
--- the first reply is open still: retiring changes nothing
-pub retired-same : (u : ℕ) (s : State) → Queue s → test (ended u) (placed (s .live) .p0) ≡ false → retired u s ≡ s
-unfolding retired
-retired-same u s q e =
-    let n = all-open u (s .live) (q .order) e in
-    λ i. record {
-      done = (ap {B = List Reply} (λ l. s .done ++ l) (filter-none (ended u) (s .live) n) ∙ append-nil (s .done)) i;
-      live = reject-none (ended u) (s .live) n i;
-      counts = s .counts;
-    }
-
 -- ---- replies after any number of ticks stand in order
 
 rising-order : (t u : ℕ) (l : List Reply) → Rising t u l → InOrder l

@@ -6,7 +6,7 @@ ghost use mathlib.Core.Bool.{Bool, cond};
 ghost use Rattle.replies.specs.Sums.{wrapped};
 ghost use Rattle.rules.specs.declared.Reply.{Reply};
 ghost use Rattle.rules.specs.Settings.{standard};
-ghost use Rattle.rules.specs.Replies.{Verdict, f1, ended as ended′, military as military′, level, near as near′, averaged as averaged′, average as average′, verdict, bitOf, settle};
+ghost use Rattle.rules.specs.Replies.{Verdict, ended as ended′, military as military′, level, near as near′, averaged as averaged′, average as average′, verdict, bitOf, settle};
 use rules::Estimate;
 use rules::Reference;
 use rules::Reply;

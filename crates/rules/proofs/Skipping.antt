@@ -87,14 +87,6 @@ module _ (set : Settings) (e : Pulse) where
       let b = deal-none (before ++ (r ∷ [])) l (h .1) in
       λ i. a i ∷ b i
 
-  -- what an edge settles moves no reply
-  still-uncovered : (v : ℕ) (before l : List Reply) → All (λ r. covers v r ≡ false) l → All (λ r. covers v r ≡ false) (dealFrom _+_ set e before l)
-  unfolding covers
-  still-uncovered v before [] h = tt
-  still-uncovered v before (r ∷ l) h =
-      let other = any (speaks set e) (before ++ l) in
-      (ap (λ (q : Tick). isPosition (position (q .0) v)) (hear-f1 set e other r) ∙ h .0, still-uncovered v (before ++ (r ∷ [])) l (h .1))
-
 -- ---- ticks at which nothing is done but to retire
 
 module _ (set : Settings) (E : ℕ → Edge) (timed : Timed E) where
@@ -194,25 +186,3 @@ module _ (set : Settings) (E : ℕ → Edge) (timed : Timed E) where
   done-grows c (suc k) =
       let z : suc k + c ≡ suc (k + c) = omega arith in
       rw z (omega (arith, step-grows (k + c) (after _+_ set E (k + c)), done-grows c k))
-
-  -- what a visit at u hands out: the replies that are over there
-  pub visit-done : (c u : ℕ) → c ≤ u → ((t : ℕ) → c ≤ t → t < u → Passed (after _+_ set E c .live) t) → stands (E u) ≡ true
-      → after _+_ set E (suc u) .done ≡ after _+_ set E c .done ++ filter (ended u) (after _+_ set E c .live)
-  unfolding retired
-  visit-done c u h p q =
-      ap (λ (s : State). s .done) (sym (visit c u h p q)) ∙ edge-done set (E u .pulse) (bracketAt set E u) (retired u (after _+_ set E c))
-
-  pub skip-done : (c u : ℕ) → c ≤ suc u → ((t : ℕ) → c ≤ t → t ≤ u → Passed (after _+_ set E c .live) t)
-      → after _+_ set E (suc u) .done ≡ after _+_ set E c .done ++ filter (ended u) (after _+_ set E c .live)
-  unfolding retired
-  skip-done c u h p = ap (λ (s : State). s .done) (sym (skip-to c u h p))
-
-  -- an edge without a bracket covers no more than before
-  pub visit-uncovered : (c u : ℕ) → c ≤ u → ((t : ℕ) → c ≤ t → t < u → Passed (after _+_ set E c .live) t) → stands (E u) ≡ true → bracketAt set E u ≡ Without
-      → (v : ℕ) → All (λ r. covers v r ≡ false) (after _+_ set E c .live) → All (λ r. covers v r ≡ false) (after _+_ set E (suc u) .live)
-  unfolding edgeStep bracket deal retired
-  visit-uncovered c u h p q b v n =
-      let U : Reply → Type 0 = λ r. covers v r ≡ false in
-      let s = after _+_ set E c in
-      let e = ap (λ (x : Bracket). edgeStep _+_ set (E u .pulse) x (retired u s)) (sym b) ∙ visit c u h p q in
-      subst (λ (x : State). All U (x .live)) e (still-uncovered set (E u .pulse) v [] (reject (ended u) (s .live)) (all-reject U (ended u) (s .live) n))

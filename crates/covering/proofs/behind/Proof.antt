@@ -1,20 +1,16 @@
+-- `covering::behind` meets its contract.
 use native.Mathlib.Omega.{arith}
 use Rattle.covering.proofs.Marking.{behind-before, behind-after}
 use borrow.Author.Needs.{needs}
 use Rattle.covering.proofs.behind.Statement.{statement}
 use Rattle.covering.proofs.behind.Tie as tie
-use Rattle.covering.proofs.behind.Reads as reads
-use Rattle.covering.proofs.behind.Lts as lts
 
--- src/lib.rt:123:9
 returns : tie.Need-returns
 returns c = behind-before (c .before .args .j) (c .before .args .k) (omega arith) (c .if1 .taken)
 
--- src/lib.rt:125:5
 add-result : tie.Need-add-result
 add-result c = search needs
 
--- src/lib.rt:117:1
 returns-2 : tie.Need-returns-2
 returns-2 c = behind-after (c .before .args .j) (c .before .args .k) (omega arith) (c .if1 .left)
 

@@ -1,29 +1,22 @@
+-- `covering::cover_of` meets its contract.
 use Rattle.rules.specs.Replies.{covers}
 use Rattle.covering.proofs.Starting.{idle-tells, cover-tells}
 use borrow.Author.Needs.{needs}
 use Rattle.covering.proofs.cover_of.Statement.{statement}
 use Rattle.covering.proofs.cover_of.Tie as tie
-use Rattle.covering.proofs.cover_of.Reads as reads
-use Rattle.covering.proofs.cover_of.Lts as lts
-use Rattle.masks.proofs.cover_mask.Reads as cover-mask-reads
 
--- src/lib.rt:18:23
 enum-told : tie.Need-enum-told
 enum-told c = search needs
 
--- src/lib.rt:19:20
 enum-known-s : tie.Need-enum-known-s
 enum-known-s c = search needs
 
--- src/lib.rt:21:13
 cover-mask-requires : tie.Need-cover-mask-requires
 cover-mask-requires c κs = search needs
 
--- src/lib.rt:12:1
 returns : tie.Need-returns
 returns c = idle-tells covers (c .before .before .args .t) (c .before .before .args .p) (c .enum-told .given .1)
 
--- src/lib.rt:12:1
 returns-2 : tie.Need-returns-2
 returns-2 c = cover-tells (c .before .before .before .before .before .args .t) (c .cover-mask .result) (c .before .before .before .before .before .args .p) _ (c .before .before .before .s .given .1) (c .cover-mask .ensures)
 

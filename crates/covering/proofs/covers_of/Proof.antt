@@ -1,45 +1,34 @@
+-- `covering::covers_of` meets its contract.
 use Rattle.rules.specs.Replies.{covers}
 use Rattle.covering.proofs.Starting.{all-tell}
 use borrow.Author.Needs.{needs}
 use Rattle.covering.proofs.covers_of.Statement.{statement}
 use Rattle.covering.proofs.covers_of.Tie as tie
-use Rattle.covering.proofs.covers_of.Reads as reads
-use Rattle.covering.proofs.covers_of.Lts as lts
-use Rattle.covering.proofs.cover_of.Reads as cover-of-reads
 
--- src/lib.rt:47:21
 array-copy-out-cover-of : tie.Need-array-copy-out-cover-of
 array-copy-out-cover-of c = search needs
 
--- src/lib.rt:47:12
 cover-of-requires : tie.Need-cover-of-requires
 cover-of-requires c κs = search needs
 
--- src/lib.rt:48:21
 array-copy-out-cover-of-2 : tie.Need-array-copy-out-cover-of-2
 array-copy-out-cover-of-2 c = search needs
 
--- src/lib.rt:48:12
 cover-of-requires-2 : tie.Need-cover-of-requires-2
 cover-of-requires-2 c κs = search needs
 
--- src/lib.rt:49:21
 array-copy-out-cover-of-3 : tie.Need-array-copy-out-cover-of-3
 array-copy-out-cover-of-3 c = search needs
 
--- src/lib.rt:49:12
 cover-of-requires-3 : tie.Need-cover-of-requires-3
 cover-of-requires-3 c κs = search needs
 
--- src/lib.rt:50:21
 array-copy-out-cover-of-4 : tie.Need-array-copy-out-cover-of-4
 array-copy-out-cover-of-4 c = search needs
 
--- src/lib.rt:50:12
 cover-of-requires-4 : tie.Need-cover-of-requires-4
 cover-of-requires-4 c κs = search needs
 
--- src/lib.rt:42:1
 returns : tie.Need-returns
 returns c = all-tell covers (c .before .before .before .before .before .before .before .before .args .t) (c .before .before .before .before .before .before .cover-of .result) (c .before .before .before .before .cover-of2 .result) (c .before .before .cover-of3 .result) (c .cover-of4 .result) (c .before .before .before .before .before .before .before .before .args .t1) (c .before .before .before .before .before .before .cover-of .ensures) (c .before .before .before .before .cover-of2 .ensures) (c .before .before .cover-of3 .ensures) (c .cover-of4 .ensures)
 

@@ -1,45 +1,34 @@
+-- `covering::last_marked` meets its contract.
 use mathlib.Core.Path.{sym, _∙_}
 use Rattle.covering.proofs.Marking.{last-3, last-2, last-1, last-0, last-none}
 use borrow.Author.Needs.{needs}
 use Rattle.covering.proofs.last_marked.Statement.{statement}
 use Rattle.covering.proofs.last_marked.Tie as tie
-use Rattle.covering.proofs.last_marked.Reads as reads
-use Rattle.covering.proofs.last_marked.Lts as lts
-use Rattle.plane.proofs.marked.Reads as marked-reads
 
--- src/lib.rt:87:8
 marked-requires : tie.Need-marked-requires
 marked-requires c κs = search needs
 
--- src/lib.rt:88:9
 returns : tie.Need-returns
 returns c = last-3 (c .before .before .args .w) (c .before .before .args .i) (sym (c .before .marked .ensures) ∙ c .if1 .taken)
 
--- src/lib.rt:90:8
 marked-requires-2 : tie.Need-marked-requires-2
 marked-requires-2 c κs = search needs
 
--- src/lib.rt:91:9
 returns-2 : tie.Need-returns-2
 returns-2 c = last-2 (c .before .before .before .before .args .w) (c .before .before .before .before .args .i) (sym (c .before .before .before .marked .ensures) ∙ c .before .before .if1 .left) (sym (c .before .marked2 .ensures) ∙ c .if2 .taken)
 
--- src/lib.rt:93:8
 marked-requires-3 : tie.Need-marked-requires-3
 marked-requires-3 c κs = search needs
 
--- src/lib.rt:94:9
 returns-3 : tie.Need-returns-3
 returns-3 c = last-1 (c .before .before .before .before .before .before .args .w) (c .before .before .before .before .before .before .args .i) (sym (c .before .before .before .before .before .marked .ensures) ∙ c .before .before .before .before .if1 .left) (sym (c .before .before .before .marked2 .ensures) ∙ c .before .before .if2 .left) (sym (c .before .marked3 .ensures) ∙ c .if3 .taken)
 
--- src/lib.rt:96:8
 marked-requires-4 : tie.Need-marked-requires-4
 marked-requires-4 c κs = search needs
 
--- src/lib.rt:97:9
 returns-4 : tie.Need-returns-4
 returns-4 c = last-0 (c .before .before .before .before .before .before .before .before .args .w) (c .before .before .before .before .before .before .before .before .args .i) (sym (c .before .before .before .before .before .before .before .marked .ensures) ∙ c .before .before .before .before .before .before .if1 .left) (sym (c .before .before .before .before .before .marked2 .ensures) ∙ c .before .before .before .before .if2 .left) (sym (c .before .before .before .marked3 .ensures) ∙ c .before .before .if3 .left) (sym (c .before .marked4 .ensures) ∙ c .if4 .taken)
 
--- src/lib.rt:83:1
 returns-5 : tie.Need-returns-5
 returns-5 c = last-none (c .before .before .before .before .before .before .before .before .args .w) (c .before .before .before .before .before .before .before .before .args .i) (sym (c .before .before .before .before .before .before .before .marked .ensures) ∙ c .before .before .before .before .before .before .if1 .left) (sym (c .before .before .before .before .before .marked2 .ensures) ∙ c .before .before .before .before .if2 .left) (sym (c .before .before .before .marked3 .ensures) ∙ c .before .before .if3 .left) (sym (c .before .marked4 .ensures) ∙ c .if4 .left)
 

@@ -1,29 +1,22 @@
+-- `covering::risk_of` meets its contract.
 use Rattle.rules.specs.Replies.{isPhantom}
 use Rattle.covering.proofs.Starting.{idle-tells, risk-tells}
 use borrow.Author.Needs.{needs}
 use Rattle.covering.proofs.risk_of.Statement.{statement}
 use Rattle.covering.proofs.risk_of.Tie as tie
-use Rattle.covering.proofs.risk_of.Reads as reads
-use Rattle.covering.proofs.risk_of.Lts as lts
-use Rattle.masks.proofs.phantom_mask.Reads as phantom-mask-reads
 
--- src/lib.rt:33:23
 enum-told : tie.Need-enum-told
 enum-told c = search needs
 
--- src/lib.rt:34:20
 enum-known-s : tie.Need-enum-known-s
 enum-known-s c = search needs
 
--- src/lib.rt:37:13
 phantom-mask-requires : tie.Need-phantom-mask-requires
 phantom-mask-requires c κs = search needs
 
--- src/lib.rt:27:1
 returns : tie.Need-returns
 returns c = idle-tells isPhantom (c .before .before .args .t) (c .before .before .args .p) (c .enum-told .given .1)
 
--- src/lib.rt:27:1
 returns-2 : tie.Need-returns-2
 returns-2 c = risk-tells (c .before .before .before .before .before .before .args .t) (c .phantom-mask .result) (c .before .before .before .before .before .before .args .p) _ (c .before .before .before .before .s .given .1) (c .phantom-mask .ensures)
 

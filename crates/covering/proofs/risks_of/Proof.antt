@@ -1,45 +1,34 @@
+-- `covering::risks_of` meets its contract.
 use Rattle.rules.specs.Replies.{isPhantom}
 use Rattle.covering.proofs.Starting.{all-tell}
 use borrow.Author.Needs.{needs}
 use Rattle.covering.proofs.risks_of.Statement.{statement}
 use Rattle.covering.proofs.risks_of.Tie as tie
-use Rattle.covering.proofs.risks_of.Reads as reads
-use Rattle.covering.proofs.risks_of.Lts as lts
-use Rattle.covering.proofs.risk_of.Reads as risk-of-reads
 
--- src/lib.rt:59:20
 array-copy-out-risk-of : tie.Need-array-copy-out-risk-of
 array-copy-out-risk-of c = search needs
 
--- src/lib.rt:59:12
 risk-of-requires : tie.Need-risk-of-requires
 risk-of-requires c κs = search needs
 
--- src/lib.rt:60:20
 array-copy-out-risk-of-2 : tie.Need-array-copy-out-risk-of-2
 array-copy-out-risk-of-2 c = search needs
 
--- src/lib.rt:60:12
 risk-of-requires-2 : tie.Need-risk-of-requires-2
 risk-of-requires-2 c κs = search needs
 
--- src/lib.rt:61:20
 array-copy-out-risk-of-3 : tie.Need-array-copy-out-risk-of-3
 array-copy-out-risk-of-3 c = search needs
 
--- src/lib.rt:61:12
 risk-of-requires-3 : tie.Need-risk-of-requires-3
 risk-of-requires-3 c κs = search needs
 
--- src/lib.rt:62:20
 array-copy-out-risk-of-4 : tie.Need-array-copy-out-risk-of-4
 array-copy-out-risk-of-4 c = search needs
 
--- src/lib.rt:62:12
 risk-of-requires-4 : tie.Need-risk-of-requires-4
 risk-of-requires-4 c κs = search needs
 
--- src/lib.rt:54:1
 returns : tie.Need-returns
 returns c = all-tell isPhantom (c .before .before .before .before .before .before .before .before .args .t) (c .before .before .before .before .before .before .risk-of .result) (c .before .before .before .before .risk-of2 .result) (c .before .before .risk-of3 .result) (c .risk-of4 .result) (c .before .before .before .before .before .before .before .before .args .t1) (c .before .before .before .before .before .before .risk-of .ensures) (c .before .before .before .before .risk-of2 .ensures) (c .before .before .risk-of3 .ensures) (c .risk-of4 .ensures)
 

@@ -1,10 +1,8 @@
+-- `covering::twice` meets its contract.
 use Rattle.covering.proofs.Marking.{twice-law}
 use Rattle.covering.proofs.twice.Statement.{statement}
 use Rattle.covering.proofs.twice.Tie as tie
-use Rattle.covering.proofs.twice.Reads as reads
-use Rattle.covering.proofs.twice.Lts as lts
 
--- src/lib.rt:58:1
 returns : tie.Need-returns
 returns c = twice-law (c .before .before .before .before .before .before .args .w)
 

@@ -1,27 +1,20 @@
+-- `covering::with_word` meets its contract.
 use borrow.Author.Needs.{needs}
 use Rattle.covering.proofs.with_word.Statement.{statement}
 use Rattle.covering.proofs.with_word.Tie as tie
-use Rattle.covering.proofs.with_word.Reads as reads
-use Rattle.covering.proofs.with_word.Lts as lts
-use Rattle.covering.proofs.pick_word.Reads as pick-word-reads
 
--- src/lib.rt:31:12
 pick-word-requires : tie.Need-pick-word-requires
 pick-word-requires c κs = search needs
 
--- src/lib.rt:32:12
 pick-word-requires-2 : tie.Need-pick-word-requires-2
 pick-word-requires-2 c κs = search needs
 
--- src/lib.rt:33:12
 pick-word-requires-3 : tie.Need-pick-word-requires-3
 pick-word-requires-3 c κs = search needs
 
--- src/lib.rt:34:12
 pick-word-requires-4 : tie.Need-pick-word-requires-4
 pick-word-requires-4 c κs = search needs
 
--- src/lib.rt:27:1
 returns : tie.Need-returns
 returns c = λ i. record { a = c .before .before .before .pick-word .ensures i; b = c .before .before .pick-word2 .ensures i; c = c .before .pick-word3 .ensures i; d = c .pick-word4 .ensures i }
 

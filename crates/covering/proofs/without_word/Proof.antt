@@ -1,23 +1,17 @@
+-- `covering::without_word` meets its contract.
 use borrow.Author.Needs.{needs}
 use Rattle.covering.proofs.without_word.Statement.{statement}
 use Rattle.covering.proofs.without_word.Tie as tie
-use Rattle.covering.proofs.without_word.Reads as reads
-use Rattle.covering.proofs.without_word.Lts as lts
-use Rattle.covering.proofs.pick_word.Reads as pick-word-reads
 
--- src/lib.rt:43:12
 pick-word-requires : tie.Need-pick-word-requires
 pick-word-requires c κs = search needs
 
--- src/lib.rt:44:12
 pick-word-requires-2 : tie.Need-pick-word-requires-2
 pick-word-requires-2 c κs = search needs
 
--- src/lib.rt:45:12
 pick-word-requires-3 : tie.Need-pick-word-requires-3
 pick-word-requires-3 c κs = search needs
 
--- src/lib.rt:39:1
 returns : tie.Need-returns
 returns c = λ i. record { a = c .before .before .pick-word .ensures i; b = c .before .pick-word2 .ensures i; c = c .pick-word3 .ensures i; d = 0 }
 
