@@ -1,8 +1,9 @@
-/* bench.c - measures the proved library beside the yardstick: same input, same process, alternating runs, the least
-   time of many. Prints lines of fields with tabs between them for bench/run, which makes the table.
+/* bench.c - measures the proved library beside the yardstick: same input, same process, runs in turns, the least
+   time of many. Built with BEFORE, it does so with an earlier build too. Prints lines of fields with tabs between them
+   for bench/run, which makes the table.
 
      bench SECONDS         compare all results, then time each case for so many seconds
-     bench --frames SCENE  print the sweeps of a scene (0 to 6) as frames, one a line
+     bench --frames SCENE  print the sweeps of a scene (0 to 7) as frames, one a line
 
    Exit status 1 if a result differs, 2 for wrong usage. */
 #define _POSIX_C_SOURCE 199309L
@@ -22,6 +23,13 @@ enum { SWEEPS = 4, GROWTH_TICKS = 51 * 64, LEAST_ROUNDS = 5, FRAME_SAMPLES = 64 
 static const size_t pieces[] = { 4096, 256, 64 };
 enum { PIECES = sizeof pieces / sizeof *pieces };
 
+/* The earlier build, or null where there is none. */
+#ifdef BEFORE
+static sweep_function *const earlier = earlier_sweep;
+#else
+static sweep_function *const earlier = NULL;
+#endif
+
 /* Traces of one length, one behind the other. */
 typedef struct {
     uint8_t flags[SWEEPS * ARP_SWEEP], values[SWEEPS * ARP_SWEEP];
@@ -37,8 +45,8 @@ static void paint_scene(int scene, traces *t)
 
 /* -------------------------------------------------------------------- timing */
 
-/* Seconds of the yardstick and of the proved library. */
-typedef struct { double yardstick, proved; } pair;
+/* Seconds of the yardstick, of the proved library and of a third function. */
+typedef struct { double yardstick, proved, third; } timing;
 
 /* What is timed: `count` sweeps of n ticks each, the whole `repeats` times. */
 typedef struct { const traces *traces; size_t count, n, piece, repeats; } work;
@@ -66,15 +74,16 @@ static double least(double a, double b)
     return a < b ? a : b;
 }
 
-/* Both on each work, in alternating runs, for so many seconds; the least times. */
-static void time_all(size_t count, const work *w, pair *best, double seconds)
+/* Both, and a third unless it is null, on each work, in turns, for so many seconds; the least times. */
+static void time_all(size_t count, const work *w, sweep_function *third, timing *best, double seconds)
 {
     const double end = now() + seconds;
-    for (size_t i = 0; i < count; i++) best[i] = (pair){ 1e9, 1e9 };
+    for (size_t i = 0; i < count; i++) best[i] = (timing){ 1e9, 1e9, 1e9 };
     for (int round = 0; round < LEAST_ROUNDS || now() < end; round++)
         for (size_t i = 0; i < count; i++) {
             best[i].yardstick = least(best[i].yardstick, run_once(yardstick_sweep, &w[i]));
             best[i].proved = least(best[i].proved, run_once(whole_sweep, &w[i]));
+            if (third) best[i].third = least(best[i].third, run_once(third, &w[i]));
         }
 }
 
@@ -115,9 +124,10 @@ static void time_scenes(double seconds)
         printf("edges\t%s\t%.1f\n", scenes[scene].name, 1000 * count_edges(&measured) / ticks);
         for (size_t j = 0; j < PIECES; j++) {
             const work w = { &measured, SWEEPS, ARP_SWEEP, pieces[j], 1 };
-            pair p;
-            time_all(1, &w, &p, seconds);
-            printf("time\t%s\t%zu\t%.4f\t%.4f\n", scenes[scene].name, pieces[j], 1e9 * p.yardstick / ticks, 1e9 * p.proved / ticks);
+            timing t;
+            time_all(1, &w, earlier, &t, seconds);
+            printf("time\t%s\t%zu\t%.4f\t%.4f\n", scenes[scene].name, pieces[j], 1e9 * t.yardstick / ticks, 1e9 * t.proved / ticks);
+            if (earlier) printf("before\t%s\t%zu\t%.4f\n", scenes[scene].name, pieces[j], 1e9 * t.third / ticks);
             fflush(stdout);
         }
     }
@@ -135,13 +145,13 @@ static void time_growth(int scene, double seconds)
         memcpy(measured.values + i * n, measured.values, n);
     }
     work w[LENGTHS];
-    pair p[LENGTHS];
+    timing t[LENGTHS];
     for (size_t i = 0; i < LENGTHS; i++)
         w[i] = (work){ &measured, counts[i], times[i] * n, ARP_PIECE, times[i] ? 10 : 400 };
-    time_all(LENGTHS, w, p, LENGTHS * seconds);
+    time_all(LENGTHS, w, NULL, t, LENGTHS * seconds);
     printf("growth\t%s\t%zu", scenes[scene].name, n);
-    for (size_t i = 0; i < LENGTHS; i++) printf("\t%.1f", 1e9 * p[i].yardstick / (double)counts[i]);
-    for (size_t i = 0; i < LENGTHS; i++) printf("\t%.1f", 1e9 * p[i].proved / (double)counts[i]);
+    for (size_t i = 0; i < LENGTHS; i++) printf("\t%.1f", 1e9 * t[i].yardstick / (double)counts[i]);
+    for (size_t i = 0; i < LENGTHS; i++) printf("\t%.1f", 1e9 * t[i].proved / (double)counts[i]);
     printf("\n");
 }
 
@@ -199,14 +209,32 @@ static int print_frames(const char *word)
     return 0;
 }
 
-static int measure(double seconds)
+static unsigned compare_proved(void)
 {
-    tally t = { 0, 0 };
+    tally t = { whole_sweep, "differs", 0, 0 };
     compare_refusals(&t);
     compare_cuttings(&t);
     compare_scenes(&t);
     printf("results\t%u\t%u\n", t.passed, t.failed);
-    if (t.failed) return 1;
+    fflush(stdout);
+    return t.failed;
+}
+
+/* The same sweeps; which refusals there are is a matter of the form. */
+static unsigned compare_earlier(void)
+{
+    tally t = { earlier, "the earlier build differs", 0, 0 };
+    compare_cuttings(&t);
+    compare_scenes(&t);
+    printf("before results\t%u\t%u\n", t.passed, t.failed);
+    return t.failed;
+}
+
+static int measure(double seconds)
+{
+    unsigned failed = compare_proved();
+    if (earlier) failed += compare_earlier();
+    if (failed) return 1;
     time_scenes(seconds);
     time_growth(0, seconds);
     time_growth(2, seconds);

@@ -1,15 +1,15 @@
-/* compare.c - the proved library's results against the yardstick's, byte for byte. */
+/* compare.c - a library's results against the yardstick's, byte for byte. */
 #include "compare.h"
 #include "stream.h"
-#include "sweeps.h"
 #include "traces.h"
 #include <stdio.h>
 #include <string.h>
 
 enum { FILL = 0xa5, AROUND = 64 };
 
-/* Buffers as they are lent: with bytes around them that must stay. */
+/* What a call returned, and buffers as they are lent: with bytes around them that must stay. */
 typedef struct {
+    int32_t returned;
     uint8_t out[AROUND + OUT_ROOM + AROUND];
     uint8_t totals[AROUND + TOTALS + AROUND];
 } lent;
@@ -19,32 +19,33 @@ static void fill(lent *b)
     memset(b, FILL, sizeof *b);
 }
 
-static void count(tally *t, int passed)
-{
-    if (passed) t->passed++;
-    else t->failed++;
-}
-
 /* The buffers must be equal in every byte, those around and behind the records too. */
-static int same(const char *name, size_t n, size_t piece, int32_t expected, const lent *e, int32_t found, const lent *f)
+static int same(const char *differs, const char *name, size_t n, size_t piece, const lent *e, const lent *f)
 {
-    if (expected != found) {
-        printf("differs: %s, %zu ticks in pieces of %zu: returned %d, not %d\n", name, n, piece, (int)found, (int)expected);
+    if (e->returned != f->returned) {
+        printf("%s: %s, %zu ticks in pieces of %zu: returned %d, not %d\n",
+               differs, name, n, piece, (int)f->returned, (int)e->returned);
         return 0;
     }
     for (size_t i = 0; i < sizeof e->out; i++)
         if (e->out[i] != f->out[i]) {
-            printf("differs: %s, %zu ticks in pieces of %zu: byte %ld of out, which has %d records, is %02x, not %02x\n",
-                   name, n, piece, (long)i - AROUND, (int)found, f->out[i], e->out[i]);
+            printf("%s: %s, %zu ticks in pieces of %zu: byte %ld of out, which has %d records, is %02x, not %02x\n",
+                   differs, name, n, piece, (long)i - AROUND, (int)f->returned, f->out[i], e->out[i]);
             return 0;
         }
     for (size_t i = 0; i < sizeof e->totals; i++)
         if (e->totals[i] != f->totals[i]) {
-            printf("differs: %s, %zu ticks in pieces of %zu: byte %ld of totals is %02x, not %02x\n",
-                   name, n, piece, (long)i - AROUND, f->totals[i], e->totals[i]);
+            printf("%s: %s, %zu ticks in pieces of %zu: byte %ld of totals is %02x, not %02x\n",
+                   differs, name, n, piece, (long)i - AROUND, f->totals[i], e->totals[i]);
             return 0;
         }
     return 1;
+}
+
+static void count(tally *t, const char *name, size_t n, size_t piece, const lent *expected, const lent *found)
+{
+    if (same(t->differs, name, n, piece, expected, found)) t->passed++;
+    else t->failed++;
 }
 
 void compare_sweep(tally *t, const char *name, const uint8_t *flags, const uint8_t *values, size_t n, size_t piece)
@@ -52,11 +53,11 @@ void compare_sweep(tally *t, const char *name, const uint8_t *flags, const uint8
     static lent expected, found;
     fill(&expected);
     fill(&found);
-    const int32_t e = yardstick_sweep(1, 0, flags, n, values, n, piece, expected.out + AROUND, OUT_ROOM,
-                                      expected.totals + AROUND, TOTALS);
-    const int32_t f = whole_sweep(1, 0, flags, n, values, n, piece, found.out + AROUND, WHOLE_BYTES(n),
-                                  found.totals + AROUND, TOTALS);
-    count(t, same(name, n, piece, e, &expected, f, &found));
+    expected.returned = yardstick_sweep(1, 0, flags, n, values, n, piece, expected.out + AROUND, OUT_ROOM,
+                                        expected.totals + AROUND, TOTALS);
+    found.returned = t->sweep(1, 0, flags, n, values, n, piece, found.out + AROUND, WHOLE_BYTES(n),
+                              found.totals + AROUND, TOTALS);
+    count(t, name, n, piece, &expected, &found);
 }
 
 void compare_cuttings(tally *t)
@@ -92,11 +93,12 @@ static void expect_refusal(tally *t, int number, arguments a)
     static lent untouched, found;
     fill(&untouched);
     fill(&found);
-    const int32_t got = whole_sweep(a.mode, a.azimuth, a.flags, a.flags_len, quiet, a.values_len, a.piece,
-                                    found.out + AROUND, a.out_len, found.totals + AROUND, a.totals_len);
+    untouched.returned = -number;
+    found.returned = t->sweep(a.mode, a.azimuth, a.flags, a.flags_len, quiet, a.values_len, a.piece,
+                              found.out + AROUND, a.out_len, found.totals + AROUND, a.totals_len);
     char name[32];
     snprintf(name, sizeof name, "refusal %d", number);
-    count(t, same(name, a.flags_len, a.piece, -number, &untouched, got, &found));
+    count(t, name, a.flags_len, a.piece, &untouched, &found);
 }
 
 /* Changes an argument so that one refusal holds. The variants stand in the order of their numbers. */

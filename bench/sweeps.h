@@ -25,4 +25,8 @@ sweep_function whole_sweep;
    accepted, and with OUT_ROOM bytes for the records. */
 sweep_function yardstick_sweep;
 
+/* An earlier build of the library, by the file of its form in before/. Its own function, there called before_sweep, may
+   have another form than whole_sweep. */
+sweep_function earlier_sweep;
+
 #endif
