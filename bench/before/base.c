@@ -1,4 +1,4 @@
-/* base.c - the form base of an earlier build's call: that of today, records of 18 bytes, totals of 12. */
+/* base.c - the form base of an earlier build: a sweep in pieces, records of 18 bytes, totals of 12. */
 #include "../sweeps.h"
 
 int32_t before_sweep(uint8_t mode, uint16_t azimuth, const uint8_t *flags, size_t flags_len,
