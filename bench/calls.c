@@ -1,7 +1,8 @@
 /* calls.c - carries out the calls that standard input has with the yardstick's operations, so that
-   model/compare-calls can compare them with the model. Reads and writes what the proved test program
-   crates/calls does; the forms of a call and of an outcome stand at the top of its main.rt. The 20
-   words and the four places of an outcome hold the yardstick's own, and zeros behind them. */
+   model/compare-calls can compare them with the model. Reads and writes what the proved test
+   program crates/test_calls does; the forms of a call and of an outcome stand at the top of its
+   main.rt. The 20 words and the four places of an outcome hold the yardstick's own, and zeros
+   behind them. */
 #include "stream.h"
 #include <stdio.h>
 #include <stdlib.h>

@@ -5,6 +5,7 @@ use mathlib.Core.Path.{_≡_, refl, sym, ap, _∙_, subst}
 use mathlib.Core.Bool.{Bool, true, false, not, _&&_, _||_}
 use mathlib.Core.List.{List, [], _∷_}
 use lib.Dec.{ltb}
+use lib.ListN.{getD}
 use borrow.Author.Tests.{ltb-false, lt-ltb, le-ltb, not-true}
 use Rattle.rules.specs.declared.Place.{Place}
 use Rattle.rules.specs.declared.Places.{Places}
@@ -12,12 +13,14 @@ use Rattle.rules.specs.declared.Slot.{Slot}
 use Rattle.rules.specs.declared.Slot.the-variants.{Idle, Open}
 use Rattle.rules.specs.Replies.{f1, ended}
 use Rattle.rules.proofs.Truth.{impossible}
-use Rattle.places.specs.Places.{testSlot, test}
+use Rattle.places.specs.Places.{testSlot, test, idle}
 use Rattle.packing.specs.declared.Planes.{Planes}
 use Rattle.front.specs.declared.words.Front.{Front}
-use Rattle.front.specs.Post.{AdvancePost, SpanPost, blank}
-use Rattle.blocks.specs.declared.Progress.{Progress}
+use Rattle.front.specs.Post.{AdvancePost, blank}
+use Rattle.span.specs.Spans.{SpanPost}
+use Rattle.processor.specs.declared.Progress.{Progress}
 use Rattle.blocks.specs.Steps.{flagless, noneDue, BlockPost}
+use Rattle.processor.specs.Arrays.{machineAt}
 use Rattle.blocks.proofs.Working.{Works, end-none, end-works}
 use Rattle.blocks.proofs.BlockLaws.{block-law}
 use Rattle.blocks.proofs.ZeroWords.{zeroPlanes, zeroSpan, blank-zero, flagless-zero, advance-zero, span-zero, top-zero}
@@ -80,21 +83,18 @@ both false b k = absurd (impossible (sym k))
 
 -- ---- the block
 
--- the four places, as a list
-listed : Places → List Place
-listed f = f .p0 ∷ (f .p1 ∷ (f .p2 ∷ (f .p3 ∷ [])))
-
 pub stays-law : (o : Progress) (p : Planes) (r t : ℕ) (recent : List ℕ) (base : ℕ) (values b : List ℕ) → r ≤ 64 → flagless p ≡ true → blank (o .front) ≡ true
-    → noneDue (o .machine .places .p0) t ≡ true → BlockPost o p r t recent base values b o b
-unfolding zeroSpan listed
+    → noneDue (getD (o .places) 0 idle) t ≡ true → BlockPost o p r t recent base values b o b
+unfolding zeroSpan
 stays-law o p r t recent base values b h planes words due =
     let f = blank-zero (o .front) words in
     let e = flagless-zero p planes in
-    let ps = listed (o .machine .places) in
-    let c = o .machine .counts in
-    let w : Works (o .machine) zeroSpan r t recent base values (o .at) b (o .machine) (o .at) b =
-    end-works (o .machine) zeroSpan r t recent base values (o .at) b b ps c (o .at) (end-none (o .machine) zeroSpan r t recent base values (o .at) b ps c 0 refl h (top-zero r) refl) due in
-    block-law o p r t recent base values b (o .front) zeroSpan (o .machine) (o .at) b
+    let ps = o .places in
+    let c = o .counts in
+    let m = machineAt o in
+    let w : Works m zeroSpan r t recent base values (o .at) b m (o .at) b =
+    end-works m zeroSpan r t recent base values (o .at) b b ps c (o .at) (end-none m zeroSpan r t recent base values (o .at) b ps c 0 refl h (top-zero r) refl) due in
+    block-law o p r t recent base values b (o .front) zeroSpan ps c (o .at) b
     (subst (λ (y : Planes). AdvancePost (o .front) y r (o .front)) (sym e) (subst (λ (g : Front). AdvancePost g zeroPlanes r g) (sym f) (advance-zero r h)))
     (subst (λ (g : Front). SpanPost g zeroSpan) (sym f) span-zero)
     w

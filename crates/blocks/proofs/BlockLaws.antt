@@ -5,7 +5,8 @@ use mathlib.Core.Path.{_≡_, sym, ap, _∙_, subst}
 use mathlib.Core.List.{List, _++_, append-assoc}
 use lib.ListN.{length, length-append}
 use Rattle.rules.specs.declared.Reply.{Reply}
-use Rattle.rules.specs.declared.Machine.{Machine}
+use Rattle.rules.specs.declared.Place.{Place}
+use Rattle.rules.specs.declared.Counts.{Counts}
 use Rattle.rules.specs.Settings.{standard}
 use Rattle.rules.specs.Samples.{Trace, _⧺_}
 use Rattle.rules.specs.Machine.{State}
@@ -17,11 +18,14 @@ use Rattle.rules.specs.Buffers.{over-at}
 use Rattle.rules.proofs.Buffers.{over-at-more}
 use Rattle.packing.specs.declared.Planes.{Planes}
 use Rattle.front.specs.declared.words.Front.{Front}
-use Rattle.front.specs.declared.span.Span.{Span}
-use Rattle.blocks.specs.declared.Progress.{Progress}
+use Rattle.span.specs.declared.Span.{Span}
+use Rattle.processor.specs.declared.Progress.{Progress}
 use Rattle.front.specs.Words.{padded, frontOf}
-use Rattle.front.specs.Post.{Low, AdvancePost, Spanned, SpanPost, Reads}
+use Rattle.front.specs.Post.{Low, AdvancePost, Reads}
+use Rattle.span.specs.Spans.{Spanned, SpanPost}
 use Rattle.blocks.specs.Steps.{stateAt, Bounded, Shows, Fed, Next, BlockPost}
+use Rattle.processor.specs.Arrays.{machineAt}
+use Rattle.processor.specs.Arrays.{machineIn}
 use Rattle.rules.proofs.Answers.{standard-allowed}
 use Rattle.blocks.proofs.Working.{Gives, Works}
 
@@ -34,8 +38,8 @@ block-done R Q a =
     ∙ ap {B = List Reply} (λ z. z ++ fresh standard R Q)
     (handed-done standard standard-allowed R ∙ ap (λ (s : State). s .done) (sym (after-known standard standard-allowed R Q a)))
 
-module _ (o : Progress) (x : Planes) (r t : ℕ) (recent : List ℕ) (base : ℕ) (values : List ℕ) (b : List ℕ) (f : Front) (s : Span) (m : Machine) (at : ℕ) (b′ : List ℕ)
-    (ad : AdvancePost (o .front) x r f) (sp : SpanPost f s) (wk : Works (o .machine) s r t recent base values (o .at) b m at b′) where
+module _ (o : Progress) (x : Planes) (r t : ℕ) (recent : List ℕ) (base : ℕ) (values : List ℕ) (b : List ℕ) (f : Front) (s : Span) (ps : List Place) (c : Counts) (at : ℕ) (b′ : List ℕ)
+    (ad : AdvancePost (o .front) x r f) (sp : SpanPost f s) (wk : Works (machineAt o) s r t recent base values (o .at) b (machineIn ps c) at b′) where
   module _ (T P Q : Trace) (b₀ : List ℕ) (fed : Fed T P b₀ o b) (lr : length (Q .flags) ≡ r) (low : Low (Q .flags) x) (nx : Next T P Q t recent base values b₀ b) where
     alike-R : length (T .flags ++ P .flags) ≡ length (T .values ++ P .values)
     alike-R = omega (arith, nx .alike, nx .alike-piece, length-append (T .flags) (P .flags), length-append (T .values) (P .values))
@@ -66,7 +70,7 @@ module _ (o : Progress) (x : Planes) (r t : ℕ) (recent : List ℕ) (base : ℕ
     lengths : length (fresh standard T (P ⧺ Q)) ≡ length (fresh standard T P) + length (fresh standard (T ⧺ P) Q)
     lengths = ap length joined ∙ length-append (fresh standard T P) (fresh standard (T ⧺ P) Q)
 
-    gives : Gives (o .machine) s r t recent base values (o .at) b ((T ⧺ P) ⧺ Q) (fresh standard (T ⧺ P) Q) m at b′
+    gives : Gives (machineAt o) s r t recent base values (o .at) b ((T ⧺ P) ⧺ Q) (fresh standard (T ⧺ P) Q) (machineIn ps c) at b′
     gives =
         let z : t - r - 178 ≡ length (T .flags ++ P .flags) - 178 = omega (arith, ticks-R) in
         wk .result ((T ⧺ P) ⧺ Q) (fresh standard (T ⧺ P) Q)
@@ -82,7 +86,7 @@ module _ (o : Progress) (x : Planes) (r t : ℕ) (recent : List ℕ) (base : ℕ
           room = omega (arith, fed .place, lengths, nx .room, nx .same);
         })
 
-    pub fed-next : Fed T (P ⧺ Q) b₀ (record { front = f; machine = m; at = at }) b′
+    pub fed-next : Fed T (P ⧺ Q) b₀ (record { front = f; places = ps; counts = c; at = at }) b′
     fed-next =
         let e = append-assoc (T .flags) (P .flags) (Q .flags) in
         record {
@@ -99,5 +103,5 @@ module _ (o : Progress) (x : Planes) (r t : ℕ) (recent : List ℕ) (base : ℕ
               ∙ ap (λ (z : List ℕ). over-at z 0 b₀) (sym (records-append (fresh standard T P) (fresh standard (T ⧺ P) Q)) ∙ ap records (sym joined));
         }
 
-  pub block-law : BlockPost o x r t recent base values b (record { front = f; machine = m; at = at }) b′
+  pub block-law : BlockPost o x r t recent base values b (record { front = f; places = ps; counts = c; at = at }) b′
   block-law = record { same = wk .same; result = fed-next }

@@ -24,14 +24,15 @@ use Rattle.plane.specs.Words.{Holds, HoldsPart}
 use Rattle.plane.proofs.BitLaws.{zero-bit, bit-above}
 use Rattle.packing.specs.declared.Planes.{Planes}
 use Rattle.packing.specs.Packing.{Packed, PackedPart}
-use Rattle.packing.specs.Flags.{BareBlock}
+use Rattle.flags.specs.Flags.{FlaglessBlock}
 use Rattle.packing.proofs.FlagBits.{A-bit, P-bit, N-bit, M-bit}
 use Rattle.places.specs.Places.{machineOf}
 use Rattle.front.specs.Words.{frontOf}
 use Rattle.front.specs.Post.{Low, Reads, valueOf}
-use Rattle.front.proofs.Spans.{value-law}
-use Rattle.blocks.specs.declared.Progress.{Progress}
+use Rattle.front.proofs.ValueLaws.{value-law}
+use Rattle.processor.specs.declared.Progress.{Progress}
 use Rattle.blocks.specs.Steps.{stateAt, Bounded, Fed, Next, BlockPost}
+use Rattle.processor.specs.Arrays.{machineAt}
 use Rattle.blocks.proofs.Working.{over-nil}
 use Rattle.blocks.specs.Feeding.{upTo, Enters, BlocksPost}
 
@@ -44,7 +45,7 @@ fresh-nothing T a =
     append-same (handed standard T) (fresh standard T nothing) []
     (sym (handed-fresh standard standard-allowed T nothing a) ∙ ap (handed standard) (join-nothing T) ∙ sym (append-nil (handed standard T)))
 
-pub fed-nothing : (T : Trace) (o : Progress) (b : List ℕ) → length (T .flags) ≡ length (T .values) → o .front ≡ frontOf (T .flags) → o .machine ≡ machineOf (stateAt T (length (T .flags) - 178))
+pub fed-nothing : (T : Trace) (o : Progress) (b : List ℕ) → length (T .flags) ≡ length (T .values) → o .front ≡ frontOf (T .flags) → machineAt o ≡ machineOf (stateAt T (length (T .flags) - 178))
     → o .at ≡ 0 → Fed T nothing b o b
 fed-nothing T o b a f m p =
     let e = fresh-nothing T a in
@@ -69,8 +70,8 @@ packed-all flags o r x e h =
     (record { a = whole-word (A flags) o (x .a) (h .a); p = whole-word (P flags) o (x .p) (h .p); n = whole-word (N flags) o (x .n) (h .n); m = whole-word (M flags) o (x .m) (h .m) })
 
 -- 64 ticks without flags
-pub packed-bare : (flags : List ℕ) (o r : ℕ) → r ≡ 64 → (b : Bool) → BareBlock flags o b → b ≡ true → PackedPart flags o r (record { a = 0; p = 0; n = 0; m = 0 })
-packed-bare flags o r e b h t =
+pub packed-flagless : (flags : List ℕ) (o r : ℕ) → r ≡ 64 → (b : Bool) → FlaglessBlock flags o b → b ≡ true → PackedPart flags o r (record { a = 0; p = 0; n = 0; m = 0 })
+packed-flagless flags o r e b h t =
     subst (λ (n : ℕ). PackedPart flags o n (record { a = 0; p = 0; n = 0; m = 0 })) (sym e)
     (record {
       a = none (A flags) (λ i l. sym (A-bit flags (o + i)) ∙ h .yes t i 0 l (omega arith));
@@ -190,4 +191,3 @@ module _ (o : Progress) (recent : List ℕ) (base : ℕ) (flags values b₀ : Li
         same = f .same;
         result = λ T g. subst (λ (R : Trace). Fed T R b₀ y b) (all-through flags values i (g .alike-piece) h) (f .state T g);
       }
-  -- a piece that would pass the limit, and one that does not

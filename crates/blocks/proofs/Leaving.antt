@@ -20,11 +20,11 @@ use Rattle.rules.specs.Lists.{All, reject, filter, count}
 use Rattle.rules.specs.Replies.{f1, covers, isPhantom, ended}
 use Rattle.rules.specs.Machine.{State, retired, fateBy, fate, clear, opened, liveAfter, tally, bracket}
 use Rattle.rules.proofs.Truth.{impossible}
-use Rattle.records.specs.Post.{InOrder}
+use Rattle.handing.specs.Post.{InOrder}
 use Rattle.places.specs.Places.{test, testSlot, idle, placeAt, placed}
-use Rattle.covering.specs.declared.Words.{Words}
-use Rattle.covering.specs.Marks.{four, Marked, AllMarked, withoutWord, withoutPlace, behindOf, lastOf, lastOn}
-use Rattle.covering.proofs.Marking.{without-marked}
+use Rattle.marking.specs.declared.Words.{Words}
+use Rattle.marking.specs.Marks.{four, Marked, AllMarked, withoutWord, withoutPlace, behindOf, lastOf, lastOn}
+use Rattle.marking.proofs.Marking.{without-marked}
 use Rattle.blocks.specs.Leaving.{removed, lessPhantom}
 
 -- ---- the places

@@ -8,3 +8,4 @@ pub mod BlockLaws
 pub mod ZeroWords
 pub mod Blank
 pub mod Feeding
+pub mod Quiet

@@ -28,16 +28,16 @@ use Rattle.rules.proofs.Settled.{edge-timed}
 use Rattle.rules.proofs.Skipping.{skip-to, visit}
 use Rattle.rules.proofs.EachReply.{value-byte, framing, framed-byte, ranged-each}
 use Rattle.rules.proofs.Answers.{standard-allowed}
-use Rattle.records.specs.Post.{Queue}
-use Rattle.records.proofs.Handing.{ordered-queue}
+use Rattle.handing.specs.Post.{Queue}
+use Rattle.handing.proofs.Handing.{ordered-queue}
 use Rattle.places.specs.Places.{test, placeAt}
 use Rattle.places.specs.Post.{Small, f2Value, Fits}
 use Rattle.places.proofs.Steps.{balanced-small}
 use Rattle.plane.specs.Words.{bit, Lowest}
 use Rattle.plane.proofs.BitLaws.{zero-bit}
-use Rattle.front.specs.declared.span.Span.{Span}
+use Rattle.span.specs.declared.Span.{Span}
 use Rattle.front.proofs.Growing.{padded-none}
-use Rattle.front.proofs.Spans.{span-stands}
+use Rattle.span.proofs.Spans.{span-stands}
 use Rattle.blocks.specs.Steps.{stateAt, Bounded, Shows}
 use Rattle.blocks.specs.Leaving.{removed, lessPhantom}
 use Rattle.blocks.proofs.Leaving.{removed-order, removed-all, removed-length, removed-short, phantom-same, over-first}
@@ -83,7 +83,7 @@ sound-over c s r l e h =
     }
   where
     Order : List Reply → Type 0
-    Order m = Rattle.records.specs.Post.InOrder m
+    Order m = Rattle.handing.specs.Post.InOrder m
 
 -- a phantom is removed
 pub sound-less : (c k : ℕ) (s : State) (p : Reply → Bool) → test p (placeAt k (s .live)) ≡ true → Sound c s → Sound c (lessPhantom k s)

@@ -10,14 +10,18 @@ use Rattle.rules.specs.declared.Pulse.{Pulse}
 use Rattle.rules.specs.declared.Counts.{Counts}
 use Rattle.rules.specs.declared.Bracket.the-variants.{Without, With}
 use Rattle.plane.specs.Words.{bit, Lowest, WithoutLowest}
-use Rattle.covering.specs.declared.Words.{Words}
+use Rattle.marking.specs.declared.Words.{Words}
+use Rattle.firsts.specs.declared.Firsts.{Firsts}
+use Rattle.outcomes.specs.declared.Outcome.{Outcome}
+use Rattle.outcomes.specs.Outcomes.{OutcomePost}
 use Rattle.settling.specs.Deals.{DealPost}
-use Rattle.front.specs.declared.span.Span.{Span}
-use Rattle.front.specs.Post.{TopPost, AbovePost, valueOf, framedIn, bracketIn}
-use Rattle.front.proofs.Spans.{bracket-none, bracket-there}
+use Rattle.span.specs.declared.Span.{Span}
+use Rattle.front.specs.Post.{valueOf}
+use Rattle.span.specs.Spans.{TopPost, AbovePost, hasBracket, bracketIn}
+use Rattle.span.proofs.Spans.{bracket-none, bracket-there}
 use Rattle.blocks.specs.Steps.{Wanted, apartIn, secondIn}
 use Rattle.blocks.proofs.Visiting.{Todo, todo-plain, todo-bracket}
-use Rattle.blocks.proofs.Taking.{Framed, Visited, visited-plain, visited-framed}
+use Rattle.blocks.proofs.Taking.{Bracketed, Visited, visited-plain, visited-bracketed}
 
 -- F2 stands at most 169 ticks behind
 pub second-low : (s : Span) (i : ℕ) → apartIn s i ≤ 169
@@ -28,7 +32,14 @@ second-low s i = go (bit (s .at168) i) (bit (s .at167) i)
     go false true = omega arith
     go false false = omega arith
 
-module _ (s : Span) (i u : ℕ) (recent : List ℕ) (base : ℕ) (values : List ℕ) (there : Bool) (et : there ≡ framedIn s i) where
+-- an outcome of the tick and M that the code finds is one of F2
+pub second-outcome : (s : Span) (i u : ℕ) (recent : List ℕ) (base : ℕ) (values : List ℕ) (f : Firsts) (on risk : Words) (e : Pulse) (w : ℕ) (main busy : Bool) (y : Outcome)
+    → w ≡ u + apartIn s i → main ≡ secondIn s i u recent base values .main → OutcomePost f on risk i e w main busy y
+    → OutcomePost f on risk i e (secondIn s i u recent base values .tick .0) (secondIn s i u recent base values .main) busy y
+second-outcome s i u recent base values f on risk e w main busy y ew em op =
+    subst (λ (q : Bool). OutcomePost f on risk i e (u + apartIn s i) q busy y) em (subst (λ (q : ℕ). OutcomePost f on risk i e q main busy y) ew op)
+
+module _ (s : Span) (i u : ℕ) (recent : List ℕ) (base : ℕ) (values : List ℕ) (there : Bool) (et : there ≡ hasBracket s i) where
   -- the F2 that the code finds is that of the bracket
   pub second-as : there ≡ true → (f : Pulse) → f ≡ secondIn s i u recent base values → With f ≡ bracketIn s i u recent base values
   second-as on f ef =
@@ -58,10 +69,10 @@ module _ (s : Span) (i u : ℕ) (recent : List ℕ) (base : ℕ) (values : List 
               (subst (λ (n : Counts). Visited l on risk c i e (bracketIn s i u recent base values) m on risk n) (sym ec) k));
         }
 
-    pub stood-framed : (f2 : Pulse) → With f2 ≡ bracketIn s i u recent base values → (l₁ : List Place) (on₁ risk₁ : Words) (c₁ : Counts) (todo₁ due a todo₂ : ℕ) (l₂ : List Place)
-        (on₂ risk₂ : Words) (c₂ : Counts) → Framed l on risk c i e f2 l₂ on₂ risk₂ c₂ → TopPost (s .due) r due → AbovePost due i a → Wanted s on₂ a todo₂ → l₁ ≡ l₂ → c₁ ≡ c₂ → on₁ ≡ on₂
+    pub stood-bracketed : (f2 : Pulse) → With f2 ≡ bracketIn s i u recent base values → (l₁ : List Place) (on₁ risk₁ : Words) (c₁ : Counts) (todo₁ due a todo₂ : ℕ) (l₂ : List Place)
+        (on₂ risk₂ : Words) (c₂ : Counts) → Bracketed l on risk c i e f2 l₂ on₂ risk₂ c₂ → TopPost (s .due) r due → AbovePost due i a → Wanted s on₂ a todo₂ → l₁ ≡ l₂ → c₁ ≡ c₂ → on₁ ≡ on₂
         → risk₁ ≡ risk₂ → todo₁ ≡ todo₂ → Stood l₁ on₁ risk₁ c₁ todo₁
-    stood-framed f2 eb l₁ on₁ risk₁ c₁ todo₁ due a todo₂ l₂ on₂ risk₂ c₂ fr top ab w el ec eo er et′ =
+    stood-bracketed f2 eb l₁ on₁ risk₁ c₁ todo₁ due a todo₂ l₂ on₂ risk₂ c₂ fr top ab w el ec eo er et′ =
         record {
           size = ap (length {A = Place}) el ∙ fr .size;
           todos =
@@ -69,7 +80,7 @@ module _ (s : Span) (i u : ℕ) (recent : List ℕ) (base : ℕ) (values : List 
               (subst (λ (n : ℕ). Todo s r on₂ n (i + 1)) (sym et′) (todo-bracket s r on todo from td due i a todo₂ on₂ top low ab w));
           visits = λ m d.
               let d′ = subst (λ (p : List Place). DealPost p on₂ i e m) el (subst (λ (v : Words). DealPost l₁ v i e m) eo d) in
-              let k = visited-framed l on risk c i e (bracketIn s i u recent base values) f2 l₂ on₂ risk₂ c₂ m (low .below) (sym eb) fr d′ in
+              let k = visited-bracketed l on risk c i e (bracketIn s i u recent base values) f2 l₂ on₂ risk₂ c₂ m (low .below) (sym eb) fr d′ in
               subst (λ (v : Words). Visited l on risk c i e (bracketIn s i u recent base values) m v risk₁ c₁) (sym eo)
               (subst (λ (v : Words). Visited l on risk c i e (bracketIn s i u recent base values) m on₂ v c₁) (sym er)
               (subst (λ (n : Counts). Visited l on risk c i e (bracketIn s i u recent base values) m on₂ risk₂ n) (sym ec) k));

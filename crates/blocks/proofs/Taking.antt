@@ -29,16 +29,16 @@ use Rattle.replies.specs.Sums.{wrapped}
 use Rattle.places.specs.Places.{test, testSlot, always, idle, any3, anyIn, countIn, withoutIn, withoutBy, pushed, placesAfter, hearSlot, hearIn, dealt, openedIn, fateIn, bracketOn, bracketIf, stepOn, placeAt, placed}
 use Rattle.masks.specs.Masks.{coversFrom, phantomFrom, CoverMask, PhantomMask}
 use Rattle.plane.specs.Words.{bit}
-use Rattle.covering.specs.declared.Words.{Words}
-use Rattle.covering.specs.Marks.{four, Marked, AllMarked, withWord, lastOf, lastOn}
-use Rattle.covering.proofs.Marking.{any-marked, with-marked}
-use Rattle.outcomes.specs.declared.Firsts.{Firsts}
+use Rattle.marking.specs.declared.Words.{Words}
+use Rattle.marking.specs.Marks.{four, Marked, AllMarked, withWord, lastOf, lastOn}
+use Rattle.marking.proofs.Marking.{any-marked, with-marked}
+use Rattle.firsts.specs.declared.Firsts.{Firsts}
 use Rattle.outcomes.specs.declared.Outcome.{Outcome}
-use Rattle.outcomes.specs.Fates.{firstsOf, Early, AllEarly, BusyPost, OpenedPost, FreePost, freeOn}
+use Rattle.firsts.specs.Ticks.{firstsOf, Early, AllEarly, BusyPost, OpenedPost, FreePost, freeOn}
 use Rattle.outcomes.specs.Outcomes.{outcomeBy, clearIn, OutcomePost, removedBy, isOpening, countedBy, isOpens}
 use Rattle.outcomes.proofs.Outcomes.{any-last, fate-as, opens-as, removes-as, fate-in}
 use Rattle.settling.specs.Deals.{DealPost}
-use Rattle.blocks.specs.Leaving.{machineIn}
+use Rattle.processor.specs.Arrays.{machineIn}
 
 -- the bracket removes none of the places: none is a phantom, or neither framing pulse has M
 abbrev pub Spares : Pulse → Pulse → List Place → Type 0
@@ -137,13 +137,13 @@ phantom-by u r = refl
 -- ---- the bracket
 
 -- what the bracket makes of the places l, their words and the counts
-pub record Framed (l : List Place) (on risk : Words) (c : Counts) (i : ℕ) (e f2 : Pulse) (m : List Place) (on′ risk′ : Words) (c′ : Counts) : Type 0 where
+pub record Bracketed (l : List Place) (on risk : Words) (c : Counts) (i : ℕ) (e f2 : Pulse) (m : List Place) (on′ risk′ : Words) (c′ : Counts) : Type 0 where
   pub size : length m ≡ length l
   pub at : (t : ℕ) → AllMarked t on risk l → t + i ≡ e .tick .0 + 242 → AllEarly (f2 .tick .0) l
       → AllMarked t on′ risk′ m × (machineIn m c′ ≡ bracketOn wrapped e f2 (machineIn l c))
 
 module _ (l : List Place) (on risk : Words) (c : Counts) (i : ℕ) (e f2 : Pulse) (s : length l ≡ 4) (li : i < 64) (lw : f2 .tick .0 < 4294967296) (f : Firsts) (ef : f ≡ firstsOf l) (busy : Bool) (bp : BusyPost f busy)
-    (y : Outcome) (op : OutcomePost f on risk i e f2 busy y) (k : ℕ) (ek : k ≡ removedBy y) (stay : k < 4 → ⊥) (n : Counts) (en : n ≡ countedBy y c) (o : Bool) (eo : o ≡ isOpening y) where
+    (y : Outcome) (op : OutcomePost f on risk i e (f2 .tick .0) (f2 .main) busy y) (k : ℕ) (ek : k ≡ removedBy y) (stay : k < 4 → ⊥) (n : Counts) (en : n ≡ countedBy y c) (o : Bool) (eo : o ≡ isOpening y) where
   -- the outcome is the fate of the rules, and no phantom is left
   record Fated : Type 0 where
     counts : n ≡ tally wrapped (fateIn e f2 (four l)) 0 c
@@ -156,7 +156,7 @@ module _ (l : List Place) (on risk : Words) (c : Counts) (i : ℕ) (e f2 : Pulse
       let p = isPhantom u in
       let K = lastOn p l in
       let main = e .main || f2 .main in
-      let clear = clearIn e f2 l in
+      let clear = clearIn e (f2 .tick .0) (f2 .main) l in
       let is : y ≡ outcomeBy main K clear busy = op .at l ef early (h .cover i u li z) (h .phantom i u li z) in
       let b : busy ≡ test always (getD l 3 idle) = bp .at l (f2 .tick .0) lw early ef in
       let none : main ≡ true → K < 4 → ⊥ = λ m lk. stay (omega (arith, ek ∙ ap removedBy is ∙ removes-as main clear busy K ∙ kept m lk, lk)) in
@@ -185,8 +185,8 @@ module _ (l : List Place) (on risk : Words) (c : Counts) (i : ℕ) (e f2 : Pulse
               (test (isPhantom (e .tick .0)) (getD l 3 idle)) ∙ q
 
   -- no reply opens
-  pub framed-shut : o ≡ false → Framed l on risk c i e f2 l on risk n
-  framed-shut ho =
+  pub bracketed-shut : o ≡ false → Bracketed l on risk c i e f2 l on risk n
+  bracketed-shut ho =
       record {
         size = refl;
         at = λ t h z early.
@@ -197,10 +197,10 @@ module _ (l : List Place) (on risk : Words) (c : Counts) (i : ℕ) (e f2 : Pulse
       }
 
   -- one opens
-  pub framed-opens : o ≡ true → (r : Reply) → OpenedPost f on i e f2 r → (j : ℕ) → FreePost f j → j < 4 → (cv ph : ℕ) → ((q t : ℕ) → t + i ≡ q + 242 → CoverMask q t cv)
+  pub bracketed-opens : o ≡ true → (r : Reply) → OpenedPost f on i e f2 r → (j : ℕ) → FreePost f j → j < 4 → (cv ph : ℕ) → ((q t : ℕ) → t + i ≡ q + 242 → CoverMask q t cv)
       → ((q t : ℕ) → t + i ≡ q + 242 → PhantomMask q (r .marks .suspect) t ph) → (on′ risk′ : Words) → on′ ≡ withWord j cv on → risk′ ≡ withWord j ph risk
-      → (m : List Place) → m ≡ set l j (record { slot = Open r }) → Framed l on risk c i e f2 m on′ risk′ n
-  framed-opens ho r opened j fr lj cv ph mc mp on′ risk′ eon erisk m em =
+      → (m : List Place) → m ≡ set l j (record { slot = Open r }) → Bracketed l on risk c i e f2 m on′ risk′ n
+  bracketed-opens ho r opened j fr lj cv ph mc mp on′ risk′ eon erisk m em =
       record {
         size = ap (length {A = Place}) em ∙ length-set l j (record { slot = Open r });
         at = λ t h z early.
@@ -314,10 +314,10 @@ visited-plain l on risk c i e b m li eb d =
           (all-dealt e t on risk l m h k, (λ a. record { places = h a; counts = c }) ∙ ap (λ (w : Bracket). stepOn wrapped standard e w (machineIn l c)) (sym eb));
     }
 
-pub visited-framed : (l : List Place) (on risk : Words) (c : Counts) (i : ℕ) (e : Pulse) (b : Bracket) (f2 : Pulse) (l₁ : List Place) (on′ risk′ : Words) (c′ : Counts) (m : List Place) → i < 64
-    → b ≡ With f2 → Framed l on risk c i e f2 l₁ on′ risk′ c′ → DealPost l₁ on′ i e m → Visited l on risk c i e b m on′ risk′ c′
+pub visited-bracketed : (l : List Place) (on risk : Words) (c : Counts) (i : ℕ) (e : Pulse) (b : Bracket) (f2 : Pulse) (l₁ : List Place) (on′ risk′ : Words) (c′ : Counts) (m : List Place) → i < 64
+    → b ≡ With f2 → Bracketed l on risk c i e f2 l₁ on′ risk′ c′ → DealPost l₁ on′ i e m → Visited l on risk c i e b m on′ risk′ c′
 unfolding stepOn
-visited-framed l on risk c i e b f2 l₁ on′ risk′ c′ m li eb fp d =
+visited-bracketed l on risk c i e b f2 l₁ on′ risk′ c′ m li eb fp d =
     record {
       at = λ t k z ready.
           let g = fp .at t k z (subst (λ (w : Bracket). Ready w l) eb ready) in
@@ -328,8 +328,8 @@ visited-framed l on risk c i e b f2 l₁ on′ risk′ c′ m li eb fp d =
           );
     }
 
-pub framed-as : (l : List Place) (on risk : Words) (c : Counts) (i : ℕ) (e f2 : Pulse) (m m′ : List Place) (on′ on″ risk′ risk″ : Words) (n : Counts) → Framed l on risk c i e f2 m on′ risk′ n → m′ ≡ m
-    → on″ ≡ on′ → risk″ ≡ risk′ → Framed l on risk c i e f2 m′ on″ risk″ n
-framed-as l on risk c i e f2 m m′ on′ on″ risk′ risk″ n h em eo er =
-    subst (λ (p : List Place). Framed l on risk c i e f2 p on″ risk″ n) (sym em)
-    (subst (λ (v : Words). Framed l on risk c i e f2 m v risk″ n) (sym eo) (subst (λ (v : Words). Framed l on risk c i e f2 m on′ v n) (sym er) h))
+pub bracketed-as : (l : List Place) (on risk : Words) (c : Counts) (i : ℕ) (e f2 : Pulse) (m m′ : List Place) (on′ on″ risk′ risk″ : Words) (n : Counts) → Bracketed l on risk c i e f2 m on′ risk′ n → m′ ≡ m
+    → on″ ≡ on′ → risk″ ≡ risk′ → Bracketed l on risk c i e f2 m′ on″ risk″ n
+bracketed-as l on risk c i e f2 m m′ on′ on″ risk′ risk″ n h em eo er =
+    subst (λ (p : List Place). Bracketed l on risk c i e f2 p on″ risk″ n) (sym em)
+    (subst (λ (v : Words). Bracketed l on risk c i e f2 m v risk″ n) (sym eo) (subst (λ (v : Words). Bracketed l on risk c i e f2 m on′ v n) (sym er) h))

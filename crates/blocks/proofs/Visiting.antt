@@ -23,12 +23,12 @@ use Rattle.places.specs.Places.{any3, anyIn, placed}
 use Rattle.places.proofs.Placed.{any-placed}
 use Rattle.plane.specs.Words.{bit, Lowest, WithoutLowest}
 use Rattle.plane.proofs.BitLaws.{bit-and, bit-or}
-use Rattle.covering.specs.declared.Words.{Words}
-use Rattle.covering.specs.Marks.{four, Marked, anyAt, AnyWord, withoutWord}
-use Rattle.covering.proofs.Marking.{any-marked}
-use Rattle.front.specs.declared.span.Span.{Span}
-use Rattle.front.specs.Post.{TopPost, AbovePost, framedIn}
-use Rattle.front.proofs.Spans.{span-bracket, bracket-none}
+use Rattle.marking.specs.declared.Words.{Words}
+use Rattle.marking.specs.Marks.{four, Marked, anyAt, AnyWord, withoutWord}
+use Rattle.marking.proofs.Marking.{any-marked}
+use Rattle.span.specs.declared.Span.{Span}
+use Rattle.span.specs.Spans.{TopPost, AbovePost, hasBracket}
+use Rattle.span.proofs.Spans.{span-bracket, bracket-none}
 use Rattle.blocks.specs.Steps.{Shows, wantedIn, Wanted}
 
 -- ---- wanted
@@ -124,8 +124,8 @@ module _ (s : Span) (r : ℕ) (on : Words) where
           sub = h .sub;
           rest = λ j l m d o.
               let w = h .rest j l m d o in
-              let off = any-left k j (or-right (framedIn s j) (anyAt on j) w) in
-              ap (λ (y : Bool). y || anyAt (withoutWord k on) j) (or-left (framedIn s j) (anyAt on j) w) ∙ off;
+              let off = any-left k j (or-right (hasBracket s j) (anyAt on j) w) in
+              ap (λ (y : Bool). y || anyAt (withoutWord k on) j) (or-left (hasBracket s j) (anyAt on j) w) ∙ off;
         })
 
     pub todo-plain : (i todo′ : ℕ) → Lowest todo i → WithoutLowest todo todo′ → Todo s r on todo′ (i + 1)
@@ -173,13 +173,13 @@ none-of p [] h = tt
 none-of p (r ∷ l) h = (or-left (p r) (any p l) h, none-of p l (or-right (p r) (any p l) h))
 
 module _ (T : Trace) (s : Span) (t : ℕ) (recent : List ℕ) (base : ℕ) (values : List ℕ) (sh : Shows T t s recent base values) (i u : ℕ) (li : i < 64) (z : t + i ≡ u + 242) where
-  pub unframed : framedIn s i ≡ false → bracketAt standard (edgeAt standard T) u ≡ Without
-  unframed h =
-      sym (bracket-none s i u recent base values (framedIn s i) refl h ∙ span-bracket T s t (sh .spanned) recent base values (sh .reads) i u li z)
+  pub bracketless : hasBracket s i ≡ false → bracketAt standard (edgeAt standard T) u ≡ Without
+  bracketless h =
+      sym (bracket-none s i u recent base values (hasBracket s i) refl h ∙ span-bracket T s t (sh .spanned) recent base values (sh .reads) i u li z)
 
   pub unwanted : (on : Words) (l : List Place) (m : List Reply) → Marked on i (covers u) l → four l ≡ placed m → length m ≤ 4 → wantedIn s on i ≡ false
       → (bracketAt standard (edgeAt standard T) u ≡ Without) × All (λ r. covers u r ≡ false) m
   unwanted on l m k e f h = (
-    unframed (or-left (framedIn s i) (anyAt on i) h),
-    none-of (covers u) m (sym (any-placed (covers u) m f) ∙ ap (anyIn (covers u)) (sym e) ∙ sym (any-marked on i (covers u) l k) ∙ or-right (framedIn s i) (anyAt on i) h),
+    bracketless (or-left (hasBracket s i) (anyAt on i) h),
+    none-of (covers u) m (sym (any-placed (covers u) m f) ∙ ap (anyIn (covers u)) (sym e) ∙ sym (any-marked on i (covers u) l k) ∙ or-right (hasBracket s i) (anyAt on i) h),
   )

@@ -31,25 +31,27 @@ use Rattle.rules.proofs.Joining.{append-same, records-append, records-length}
 use Rattle.rules.proofs.Settled.{edge-timed, edge-done}
 use Rattle.rules.proofs.Skipping.{done-grows}
 use Rattle.replies.specs.Sums.{wrapped}
-use Rattle.records.specs.Post.{dueSlot, HandedPost, InOrder, Queue}
-use Rattle.records.proofs.Handing.{all-open}
+use Rattle.handing.specs.Post.{dueSlot, HandedPost, InOrder, Queue}
+use Rattle.handing.proofs.Handing.{all-open}
 use Rattle.places.specs.Places.{test, idle, stepOn, placeAt, placed, machineOf}
 use Rattle.places.specs.Post.{Small, Fits, EdgePost}
 use Rattle.places.proofs.Steps.{edge-post}
 use Rattle.plane.specs.Words.{bit, Lowest, WithoutLowest}
 use Rattle.plane.proofs.BitLaws.{zero-bit}
-use Rattle.covering.specs.declared.Words.{Words}
-use Rattle.covering.specs.Marks.{four, AllMarked, withoutWord, withoutPlace, lastOn}
-use Rattle.front.specs.declared.span.Span.{Span}
-use Rattle.front.specs.Post.{TopPost, AbovePost, valueOf, pulseIn, framedIn, bracketIn}
-use Rattle.front.proofs.Spans.{span-pulse, span-bracket}
-use Rattle.outcomes.specs.declared.Firsts.{Firsts}
+use Rattle.marking.specs.declared.Words.{Words}
+use Rattle.marking.specs.Marks.{four, AllMarked, withoutWord, withoutPlace, lastOn}
+use Rattle.span.specs.declared.Span.{Span}
+use Rattle.front.specs.Post.{valueOf}
+use Rattle.span.specs.Spans.{TopPost, AbovePost, pulseIn, hasBracket, bracketIn}
+use Rattle.span.proofs.Spans.{span-pulse, span-bracket}
+use Rattle.firsts.specs.declared.Firsts.{Firsts}
 use Rattle.outcomes.specs.declared.Outcome.{Outcome}
-use Rattle.outcomes.specs.Fates.{firstsOf, AllEarly}
+use Rattle.firsts.specs.Ticks.{firstsOf, AllEarly}
 use Rattle.outcomes.specs.Outcomes.{outcomeBy, clearIn, OutcomePost, removedBy, countedBy, phantomMore}
 use Rattle.outcomes.proofs.Outcomes.{removes-main}
 use Rattle.blocks.specs.Steps.{stateAt, Shows, wantedIn, Wanted, noneDue}
-use Rattle.blocks.specs.Leaving.{machineIn, removed, lessPhantom}
+use Rattle.blocks.specs.Leaving.{removed, lessPhantom}
+use Rattle.processor.specs.Arrays.{machineIn}
 use Rattle.blocks.proofs.Leaving.{without-there, last-there, marked-left, over-first}
 use Rattle.blocks.proofs.Stages.{Sound, Held, sound-at, fits, tick-there, due-at, onward, held-over, held-less, held-step, retired-open}
 use Rattle.blocks.proofs.Visiting.{Todo, todo-start, todo-first, todo-left, todo-plain, todo-bracket, unwanted}
@@ -183,7 +185,7 @@ module _ (m₀ : Machine) (s : Span) (r t : ℕ) (recent : List ℕ) (base : ℕ
 
   -- the tick u that the code visits is tick i of the span
   module _ (b : List ℕ) (ps : List Place) (on risk : Words) (c : Counts) (at todo from : ℕ) (w : Working b ps on risk c at todo from) (i u : ℕ) (low : Lowest todo i)
-      (tick : (v : ℕ) → t + i ≡ v + 242 → u ≡ v) where
+      (tick : u ≡ t + i - 242) where
     pub first-from : from ≤ i
     first-from = todo-first s r on todo from (w .todos) i low
 
@@ -193,9 +195,7 @@ module _ (m₀ : Machine) (s : Span) (r t : ℕ) (recent : List ℕ) (base : ℕ
     at-tick : (T : Trace) (l : List Reply) → Block T l → t + i ≡ u + 242
     at-tick T l g =
         let k = tick-there T t s recent base values (g .shows) i (low .below) due-set in
-        let v = t + i - 242 in
-        let z : t + i ≡ v + 242 = omega arith in
-        omega (arith, tick v z)
+        omega (arith, k, tick)
 
     -- the first place has a reply that is over: it is handed out
     module _ (x : Bool) (ex : x ≡ test (ended u) (getD ps 0 idle)) (over : x ≡ true) (at′ : ℕ) (b′ : List ℕ) (size : length b′ ≡ length b)
@@ -272,7 +272,7 @@ module _ (m₀ : Machine) (s : Span) (r t : ℕ) (recent : List ℕ) (base : ℕ
           }
 
       -- the bracket removes the phantom of place k
-      module _ (f2 : Pulse) (eb : With f2 ≡ bracketIn s i u recent base values) (f : Firsts) (ef : f ≡ firstsOf ps) (busy : Bool) (y : Outcome) (op : OutcomePost f on risk i e f2 busy y)
+      module _ (f2 : Pulse) (eb : With f2 ≡ bracketIn s i u recent base values) (f : Firsts) (ef : f ≡ firstsOf ps) (busy : Bool) (y : Outcome) (op : OutcomePost f on risk i e (f2 .tick .0) (f2 .main) busy y)
           (k : ℕ) (ek : k ≡ removedBy y) (lk : k < 4) (n : Counts) (en : n ≡ countedBy y c) where
         less : (T : Trace) (l : List Reply) → Block T l → (S : State) → Held T t todo S → machineIn ps c ≡ machineOf S
             → Given (stateAt T (t - r - 178) .done) (S .done) at₀ b₀ at b → (on′ risk′ : Words) (ps′ : List Place) → on′ ≡ withoutWord k on → risk′ ≡ withoutWord k risk
@@ -281,10 +281,10 @@ module _ (m₀ : Machine) (s : Span) (r t : ℕ) (recent : List ℕ) (base : ℕ
             let v = seen T l g S h is in
             let P = edgeAt standard T u .pulse in
             let z : t + i ≡ P .tick .0 + 242 = omega (arith, v .at-u, v .tick-u) in
-            let op′ = subst (λ (q : Pulse). OutcomePost f on risk i q f2 busy y) (v .pulse) op in
+            let op′ = subst (λ (q : Pulse). OutcomePost f on risk i q (f2 .tick .0) (f2 .main) busy y) (v .pulse) op in
             let main = P .main || f2 .main in
             let K = lastOn (isPhantom (P .tick .0)) ps in
-            let clear = clearIn P f2 ps in
+            let clear = clearIn P (f2 .tick .0) (f2 .main) ps in
             let said : y ≡ outcomeBy main K clear busy =
             op′ .at ps ef (v .early (f2 .tick .0) (bracket-late s i u recent base values f2 eb)) (mk .cover i (P .tick .0) (low .below) z) (mk .phantom i (P .tick .0) (low .below) z) in
             let rk = ek ∙ ap removedBy said in

@@ -9,16 +9,17 @@ use Rattle.rules.proofs.Truth.{and-left, and-right}
 use Rattle.packing.specs.declared.Planes.{Planes}
 use Rattle.plane.specs.Words.{Holds, Slid}
 use Rattle.edges.specs.Detection.{Detected}
-use Rattle.edges.specs.Brackets.{Due}
+use Rattle.brackets.specs.Brackets.{Due}
 use Rattle.plane.proofs.BitLaws.{zero-bit}
 use Rattle.plane.proofs.PlaneLaws.{holds-none}
-use Rattle.edges.proofs.detection.LowTicks.{skipped}
+use Rattle.edges.proofs.LowTicks.{skipped}
 use Rattle.front.specs.declared.words.Front.{Front}
-use Rattle.front.specs.declared.span.Span.{Span}
-use Rattle.front.specs.Post.{AdvancePost, SpanPost, TopPost, blank}
+use Rattle.span.specs.declared.Span.{Span}
+use Rattle.front.specs.Post.{AdvancePost, blank}
+use Rattle.span.specs.Spans.{SpanPost, TopPost}
 use Rattle.blocks.specs.Steps.{flagless}
 use Rattle.front.proofs.Advancing.{advance-law}
-use Rattle.front.proofs.Spans.{span-law}
+use Rattle.span.proofs.Spans.{span-law}
 
 -- ---- zero words
 

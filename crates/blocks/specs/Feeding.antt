@@ -9,8 +9,9 @@ use Rattle.rules.specs.Calls.{fresh}
 use Rattle.places.specs.Places.{machineOf}
 use Rattle.front.specs.Words.{frontOf}
 use Rattle.front.specs.Post.{Reads}
-use Rattle.blocks.specs.declared.Progress.{Progress}
+use Rattle.processor.specs.declared.Progress.{Progress}
 use Rattle.blocks.specs.Steps.{stateAt, Bounded, Fed}
+use Rattle.processor.specs.Arrays.{machineAt}
 
 -- the first n ticks of a piece
 abbrev pub upTo : List ℕ → List ℕ → ℕ → Trace
@@ -19,7 +20,7 @@ upTo flags values n = record { flags = take n flags; values = take n values }
 -- o is where flags and values begin, behind the trace T: at each of their ticks edges stand within the limit of a sweep, the values are at hand, and the buffer b₀ has room
 pub record Enters (T : Trace) (o : Progress) (recent : List ℕ) (base : ℕ) (flags values b₀ : List ℕ) : Type 0 where
   pub front : o .front ≡ frontOf (T .flags)
-  pub machine : o .machine ≡ machineOf (stateAt T (length (T .flags) - 178))
+  pub machine : machineAt o ≡ machineOf (stateAt T (length (T .flags) - 178))
   pub place : o .at ≡ 0
   pub ticks : length (T .flags) ≡ base
   pub alike : length (T .flags) ≡ length (T .values)

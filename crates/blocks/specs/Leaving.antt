@@ -3,14 +3,11 @@ use Prim.Native.Nat.{ℕ, zero, suc, _+_}
 use mathlib.Core.List.{List, [], _∷_, _++_}
 use Rattle.rules.specs.declared.Reply.{Reply}
 use Rattle.rules.specs.declared.Place.{Place}
+use Rattle.rules.specs.declared.Places.{Places}
 use Rattle.rules.specs.declared.Counts.{Counts}
 use Rattle.rules.specs.declared.Machine.{Machine}
 use Rattle.rules.specs.Machine.{State}
-use Rattle.covering.specs.Marks.{four}
-
--- the machine of the places and the counts
-abbrev pub machineIn : List Place → Counts → Machine
-machineIn l c = record { places = four l; counts = c }
+use Rattle.marking.specs.Marks.{four}
 
 -- the list without its k-th
 abbrev pub removed : ℕ → List Reply → List Reply

@@ -3,14 +3,14 @@ use Prim.Native.Nat.{ℕ, suc, _+_, _-_, _*_, _≤_, _<_}
 use mathlib.Core.Bool.{Bool, true, not, _&&_, _||_, cond}
 use mathlib.Core.List.{List, _++_}
 use mathlib.Core.Path.{_≡_}
-use lib.Dec.{eqb, ltb}
+use lib.Dec.{eqb, leb, ltb}
 use lib.ListN.{length, getD}
 use Rattle.rules.specs.declared.Reply.{Reply}
 use Rattle.rules.specs.declared.Machine.{Machine}
 use Rattle.rules.specs.declared.Bracket.the-variants.{Without}
 use Rattle.rules.specs.Settings.{standard}
 use Rattle.rules.specs.Lists.{All, filter}
-use Rattle.rules.specs.Samples.{Trace, _⧺_, P, sweepLimit}
+use Rattle.rules.specs.Samples.{Trace, _⧺_, P, pieceLimit, sweepLimit}
 use Rattle.rules.specs.Edges.{stands, edgeAt}
 use Rattle.rules.specs.Replies.{f1, ended, covers}
 use Rattle.rules.specs.Machine.{State, bracketAt, after}
@@ -20,16 +20,19 @@ use Rattle.rules.specs.declared.Counts.{Counts}
 use Rattle.places.specs.Places.{test, machineOf}
 use Rattle.rules.specs.declared.Place.{Place}
 use Rattle.rules.specs.declared.Pulse.{Pulse}
-use Rattle.covering.specs.declared.Words.{Words}
-use Rattle.covering.specs.Marks.{anyAt}
+use Rattle.marking.specs.declared.Words.{Words}
+use Rattle.marking.specs.Marks.{anyAt}
 use Rattle.rules.specs.Buffers.{over-at}
 use Rattle.plane.specs.Words.{bit, WithoutLowest}
 use Rattle.packing.specs.declared.Planes.{Planes}
+use Rattle.flags.specs.Flags.{noFlags}
 use Rattle.front.specs.declared.words.Front.{Front}
-use Rattle.front.specs.declared.span.Span.{Span}
-use Rattle.blocks.specs.declared.Progress.{Progress}
+use Rattle.span.specs.declared.Span.{Span}
+use Rattle.processor.specs.declared.Progress.{Progress}
+use Rattle.processor.specs.Arrays.{machineAt}
 use Rattle.front.specs.Words.{padded, frontOf}
-use Rattle.front.specs.Post.{Low, Reads, Spanned, valueOf, pulseIn, framedIn, blank}
+use Rattle.front.specs.Post.{Low, Reads, valueOf, blank}
+use Rattle.span.specs.Spans.{Spanned, pulseIn, hasBracket}
 
 -- no flag
 abbrev pub flagless : Planes → Bool
@@ -61,7 +64,7 @@ pub record Shows (T : Trace) (t : ℕ) (s : Span) (recent : List ℕ) (base : �
 
 -- tick i of the span has a bracket, or a reply covers it
 abbrev pub wantedIn : Span → Words → ℕ → Bool
-wantedIn s on i = framedIn s i || anyAt on i
+wantedIn s on i = hasBracket s i || anyAt on i
 
 -- those of the ticks x
 pub record Wanted (s : Span) (on : Words) (x y : ℕ) : Type 0 where
@@ -91,7 +94,7 @@ secondIn s i u recent base values =
 -- T with P of its piece behind it: words, machine, and what P hands out in the buffer b, which was b₀
 pub record Fed (T P : Trace) (b₀ : List ℕ) (y : Progress) (b : List ℕ) : Type 0 where
   pub front : y .front ≡ frontOf (T .flags ++ P .flags)
-  pub machine : y .machine ≡ machineOf (stateAt (T ⧺ P) (length (T .flags ++ P .flags) - 178))
+  pub machine : machineAt y ≡ machineOf (stateAt (T ⧺ P) (length (T .flags ++ P .flags) - 178))
   pub place : y .at ≡ 18 * length (fresh standard T P)
   pub buffer : b ≡ over-at (records (fresh standard T P)) 0 b₀
 
@@ -113,3 +116,11 @@ pub record BlockPost (o : Progress) (p : Planes) (r t : ℕ) (recent : List ℕ)
 -- the reply of the first place, if there is one, is not due once t ticks are taken
 abbrev pub noneDue : Place → ℕ → Bool
 noneDue p t = ltb t 179 || not (test (ended (t - 179)) p)
+
+-- ---- a piece that finds nothing
+
+-- a piece of these flags, behind `base` ticks, that finds nothing: it is no longer than a piece and within the sweep, no flag is set, no word has a bit, and the
+-- reply of the first place does not become due
+abbrev pub quiet : Front → Place → ℕ → List ℕ → Bool
+quiet f first base flags =
+    leb (length flags) pieceLimit && (leb (base + length flags) sweepLimit && (noFlags flags && (blank f && noneDue first (base + length flags))))

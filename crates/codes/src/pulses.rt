@@ -29,7 +29,7 @@ pub const D4: u16 = 4096;
 // The eleven pulses of an altitude, and the twelve of an identity.
 pub const ELEVEN: u16 = 0x1ebf;
 
-pub const TWELVE: u16 = 0x1fbf;
+pub(crate) const TWELVE: u16 = 0x1fbf;
 
 // Three pulses as a number: the first counts 4, the second 2, the third 1.
 pub fn weighted(word: u16, four: u16, two: u16, one: u16) -> u8

@@ -11,8 +11,8 @@ use Rattle.rules.specs.Replies.{f1, covers, isPhantom}
 use Rattle.plane.proofs.BitLaws.{zero-bit}
 use Rattle.places.specs.Places.{test, testSlot, idle}
 use Rattle.masks.specs.Masks.{coversFrom, phantomFrom, CoverMask, PhantomMask}
-use Rattle.covering.specs.declared.Words.{Words}
-use Rattle.covering.specs.Marks.{Marked, AllMarked}
+use Rattle.marking.specs.declared.Words.{Words}
+use Rattle.marking.specs.Marks.{Marked, AllMarked}
 use Rattle.covering.specs.Starts.{Tells, AllTell}
 
 covers-by : (u : ℕ) (r : Reply) → coversFrom (f1 r) u ≡ covers u r

@@ -7,8 +7,8 @@ use Rattle.rules.specs.declared.Reply.{Reply}
 use Rattle.rules.specs.declared.Place.{Place}
 use Rattle.plane.specs.Words.{bit}
 use Rattle.places.specs.Places.{test}
-use Rattle.covering.specs.declared.Words.{Words}
-use Rattle.covering.specs.Marks.{Marked}
+use Rattle.marking.specs.declared.Words.{Words}
+use Rattle.marking.specs.Marks.{Marked}
 
 pub record Tells (p : ℕ → Reply → Bool) (t x : ℕ) (y : Place) : Type 0 where
   pub at : (i u : ℕ) → i < 64 → t + i ≡ u + 242 → bit x i ≡ test (p u) y

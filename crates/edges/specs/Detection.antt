@@ -3,8 +3,8 @@ use Prim.Native.Nat.{ℕ, _+_}
 use mathlib.Core.List.{List}
 use Rattle.rules.specs.Samples.{A, P, N}
 use Rattle.rules.specs.Sentences.{leadAt}
-use Rattle.edges.specs.declared.detection.Past.{Past}
-use Rattle.edges.specs.declared.detection.Found.{Found}
+use Rattle.edges.specs.declared.Past.{Past}
+use Rattle.edges.specs.declared.Found.{Found}
 use Rattle.plane.specs.Words.{Holds}
 use Rattle.edges.specs.Planes.{fallsAt, calmAt, chainAt, untrailed, drawnOut, hasEdge}
 

@@ -1,4 +1,3 @@
 -- What the functions on words answer, in the terms of the rules.
 pub mod Planes
 pub mod Detection
-pub mod Brackets

@@ -1,18 +1,20 @@
 -- Where a line ends: the bytes looked at so far have no newline.
-use Prim.Native.Nat.{ℕ, suc, _+_, _-_, _*_, _≤_, _<_}
+use Prim.Native.Nat.{ℕ, zero, suc, _+_, _-_, _*_, _≤_, _<_}
+use native.Mathlib.Numerals.{add-one}
 use native.Mathlib.Omega.{arith}
-use mathlib.Core.Path.{_≡_, refl, ap, _∙_, subst}
-use mathlib.Core.Logic.{inl, inr}
-use mathlib.Core.Bool.{Bool, true, false, _||_}
-use mathlib.Core.List.{List, [], _∷_}
-use lib.Dec.{ltb, eqb}
-use lib.ListN.{length, getD}
-use borrow.Author.Tests.{ltb-true, ltb-false, eqb-false}
-use Rattle.rules.specs.Lists.{All}
-use Rattle.rules.proofs.Truth.{or-left, or-right}
+use mathlib.Core.Path.{_≡_, refl, sym, ap, _∙_, subst}
+use mathlib.Core.Logic.{_⊎_, inl, inr}
+use mathlib.Core.Bool.{Bool, true, false, _&&_, _||_, not, cond, or-false, or-assoc, and-false}
+use mathlib.Core.List.{List, [], _∷_, _++_}
+use lib.Dec.{ltb, leb, eqb}
+use lib.ListN.{length, getD, take, drop, length-take, length-drop}
+use lib.Seq.{take-suc, getD-take, getD-drop}
+use borrow.Author.Tests.{ltb-true, ltb-false, leb-false, le-leb, lt-leb, eqb-true, eqb-false}
+use Rattle.rules.specs.Lists.{any, All}
+use Rattle.rules.proofs.Truth.{impossible, or-left, or-right, or-second}
 use Rattle.ends.specs.declared.End.{End}
 use Rattle.ends.specs.declared.End.the-variants.{At, Past}
-use Rattle.ends.specs.Ends.{NoNewline, Passed, LineEnd, LinePast, EndPost}
+use Rattle.ends.specs.Ends.{NoNewline, Newline, newlineIn, plain32, passedBy, Passed, LineEnd, LinePast, EndPost}
 
 -- ---- bytes without a newline
 
@@ -33,43 +35,127 @@ more-bytes input from i to h g = record { none = λ k a b e. go k a b e (ltb k i
     go k a b e true q = h .none k a (ltb-true k i q) e
     go k a b e false q = g .none k (ltb-false k i q) b e
 
--- the bytes from `from` to before place from + k are looked at
+-- ---- a newline among some bytes
+
+abbrev newline : ℕ → Bool
+newline c = eqb c 10
+
+none-among : (l : List ℕ) → any newline l ≡ false → (k : ℕ) → getD l k 0 ≡ 10 → ⊥
+none-among [] h k e = omega arith
+none-among (c ∷ l) h zero e = eqb-false c 10 (or-left (newline c) (any newline l) h) e
+none-among (c ∷ l) h (suc k) e = none-among l (or-right (newline c) (any newline l) h) k e
+
+some-among : (l : List ℕ) → any newline l ≡ true → Newline l 0 (length l)
+some-among [] h = absurd (impossible (sym h))
+some-among (c ∷ l) h = go (newline c) refl (some-among l)
+  where
+    go : (b : Bool) → newline c ≡ b → (any newline l ≡ true → Newline l 0 (length l)) → Newline (c ∷ l) 0 (length (c ∷ l))
+    go true e g = record { at = 0; start = omega arith; before = omega arith; is = eqb-true c 10 e }
+    go false e g =
+        let n = g (or-second (newline c) (any newline l) e h) in
+        record { at = suc (n .at); start = omega arith; before = omega (arith, n .before); is = n .is }
+
+any-last : (l : List ℕ) (c : ℕ) → any newline (l ++ (c ∷ [])) ≡ (any newline l || newline c)
+any-last [] c = or-false (newline c)
+any-last (d ∷ l) c = ap (λ (b : Bool). newline d || b) (any-last l c) ∙ sym (or-assoc (newline d) (any newline l) (newline c))
+
+module _ (input : List ℕ) (from n : ℕ) where
+  -- what the test says
+  pub newline-none : newlineIn input from n ≡ false → NoNewline input from (from + n)
+  newline-none h =
+      record {
+        none = λ k a b e.
+            none-among (take n (drop from input)) h (k - from)
+            (getD-take n (drop from input) (k - from) 0 (omega arith) ∙ getD-drop from input (k - from) 0 ∙ ap (λ (j : ℕ). getD input j 0) {x = from + (k - from)} {y = k} (omega arith) ∙ e);
+      }
+
+  pub newline-some : newlineIn input from n ≡ true → Newline input from (from + n)
+  newline-some h =
+      let l = drop from input in
+      let g = some-among (take n l) h in
+      let short : g .at < n = omega (arith, g .before, length-take n l) in
+      record { at = from + g .at; start = omega arith; before = omega arith; is = sym (getD-take n l (g .at) 0 short ∙ getD-drop from input (g .at) 0) ∙ g .is }
+
+-- k bytes are looked at
 pub record Noticed (input : List ℕ) (from k : ℕ) (seen : Bool) : Type 0 where
   pub most : k ≤ 32
-  pub before : seen ≡ false → NoNewline input from (from + k)
+  pub is : seen ≡ newlineIn input from k
 
 module _ (input : List ℕ) (from : ℕ) where
   pub noticed-none : Noticed input from 0 false
-  noticed-none = record { most = omega arith; before = λ z. no-bytes input from (from + 0) (omega arith) }
+  noticed-none = record { most = omega arith; is = refl }
 
-  pub noticed-next : (k : ℕ) (seen : Bool) → k < 32 → Noticed input from k seen → Noticed input from (k + 1) (seen || eqb (getD input (from + k) 0) 10)
-  noticed-next k seen l h =
+  pub noticed-next : (k : ℕ) (seen : Bool) → k < 32 → from + 32 ≤ length input → Noticed input from k seen → Noticed input from (k + 1) (seen || eqb (getD input (from + k) 0) 10)
+  noticed-next k seen l room h =
+      let bytes = drop from input in
+      let there : k < length bytes = omega (arith, length-drop from input) in
       record {
         most = omega arith;
-        before = λ z.
-            one-byte-more input from (from + k) (from + (k + 1)) (omega arith) (h .before (or-left seen (eqb (getD input (from + k) 0) 10) z))
-            (eqb-false (getD input (from + k) 0) 10 (or-right seen (eqb (getD input (from + k) 0) 10) z));
+        is = rw (add-one, take-suc bytes k 0 there, any-last, getD-drop, h .is);
       }
 
-  pub noticed-all : (k : ℕ) (seen : Bool) → 32 ≤ k → Noticed input from k seen → seen ≡ false → NoNewline input from (from + 32)
-  noticed-all k seen l h z = more-bytes input from (from + k) (from + 32) (h .before z) (no-bytes input (from + k) (from + 32) (omega arith))
+  pub noticed-all : (k : ℕ) (seen : Bool) → 32 ≤ k → Noticed input from k seen → seen ≡ newlineIn input from 32
+  noticed-all k seen l h = h .is ∙ ap (newlineIn input from) {x = k} {y = 32} (omega (arith, h .most))
 
--- k times 32 bytes are passed
+-- ---- bytes passed 32 at a time
+
+plain-next : (n : ℕ) (input : List ℕ) (from : ℕ) → plain32 input from ≡ true → passedBy (suc n) input from ≡ passedBy n input (from + 32)
+plain-next n input from h = rw h
+
+plain-stop : (n : ℕ) (input : List ℕ) (from : ℕ) → plain32 input from ≡ false → passedBy n input from ≡ from
+plain-stop zero input from h = refl
+plain-stop (suc n) input from h = rw h
+
+one-more : (n : ℕ) (input : List ℕ) (from to : ℕ) → NoNewline input from (from + 32) → Passed n input (from + 32) to → Passed (suc n) input from to
+one-more n input from to g h =
+    record { k = suc (h .k); most = omega (arith, h .most); place = omega (arith, h .place); before = more-bytes input from (from + 32) to g (h .before); stops = why (h .stops) }
+  where
+    why : {X : Type 0} → (h .k ≡ n) ⊎ X → (suc (h .k) ≡ suc n) ⊎ X
+    why (inl e) = inl (ap suc e)
+    why (inr x) = inr x
+
+-- what the number says
+pub passed-by : (n : ℕ) (input : List ℕ) (from : ℕ) → Passed n input from (passedBy n input from)
+passed-by zero input from = record { k = 0; most = omega arith; place = omega arith; before = no-bytes input from from (omega arith); stops = inl refl }
+passed-by (suc n) input from = go (leb (from + 32) (length input)) (newlineIn input from 32) refl refl (passed-by n input (from + 32))
+  where
+    stop : (length input < from + 32) ⊎ Newline input from (from + 32) → Passed (suc n) input from from
+    stop h = record { k = 0; most = omega arith; place = omega arith; before = no-bytes input from from (omega arith); stops = inr h }
+
+    go : (b c : Bool) → leb (from + 32) (length input) ≡ b → newlineIn input from 32 ≡ c → Passed n input (from + 32) (passedBy n input (from + 32))
+        → Passed (suc n) input from (cond (b && not c) (passedBy n input (from + 32)) from)
+    go true true e f h = stop (inr (newline-some input from 32 f))
+    go true false e f h = one-more n input from (passedBy n input (from + 32)) (newline-none input from 32 f) h
+    go false c e f h = stop (inl (leb-false (from + 32) (length input) e))
+
+pub passed-at : (input : List ℕ) (from i : ℕ) → i ≡ passedBy 8 input from → Passed 8 input from i
+passed-at input from i e = rw e (passed-by 8 input from)
+
+-- after k of eight
 pub record Passing (input : List ℕ) (from i k : ℕ) : Type 0 where
   pub most : k ≤ 8
-  pub place : i ≡ from + 32 * k
-  pub before : NoNewline input from i
+  pub rest : passedBy 8 input from ≡ passedBy (8 - k) input i
 
 module _ (input : List ℕ) (from : ℕ) where
   pub passing-start : Passing input from from 0
-  passing-start = record { most = omega arith; place = omega arith; before = no-bytes input from from (omega arith) }
+  passing-start = record { most = omega arith; rest = refl }
 
   module _ (i k : ℕ) (h : Passing input from i k) where
-    pub passing-next : k < 8 → NoNewline input i (i + 32) → Passing input from (i + 32) (k + 1)
-    passing-next l g = record { most = omega arith; place = omega (arith, h .place); before = more-bytes input from i (i + 32) (h .before) g }
+    pub passing-next : k < 8 → i + 32 ≤ length input → newlineIn input i 32 ≡ false → Passing input from (i + 32) (k + 1)
+    passing-next l room g =
+        record {
+          most = omega arith;
+          rest = h .rest ∙ ap (λ (n : ℕ). passedBy n input i) {x = 8 - k} {y = suc (8 - (k + 1))} (omega arith) ∙ plain-next (8 - (k + 1)) input i (rw (le-leb (i + 32) (length input) room, g));
+        }
 
-    pub passing-end : Passed input from i
-    passing-end = record { start = omega (arith, h .place); most = omega (arith, h .place, h .most); before = h .before }
+    pub passing-short : length input < i + 32 → i ≡ passedBy 8 input from
+    passing-short short = sym (h .rest ∙ plain-stop (8 - k) input i (rw (lt-leb (i + 32) (length input) short)))
+
+    pub passing-found : newlineIn input i 32 ≡ true → i ≡ passedBy 8 input from
+    passing-found g = sym (h .rest ∙ plain-stop (8 - k) input i (rw g (and-false (leb (i + 32) (length input)))))
+
+    pub passing-end : 8 ≤ k → i ≡ passedBy 8 input from
+    passing-end l = sym (h .rest ∙ ap (λ (n : ℕ). passedBy n input i) {x = 8 - k} {y = 0} (omega arith))
 
 -- ---- where a line ends
 
@@ -80,9 +166,9 @@ pub record Looking (input : List ℕ) (from i left : ℕ) : Type 0 where
   pub seen : NoNewline input from i
 
 module _ (input : List ℕ) (from : ℕ) where
-  pub looking-start : (i : ℕ) → Passed input from i → Looking input from i (259 - (i - from))
+  pub looking-start : (i : ℕ) → Passed 8 input from i → Looking input from i (259 - (i - from))
   looking-start i h =
-      record { start = h .start; sum = omega (arith, h .start, h .most); some = omega (arith, h .most); seen = h .before }
+      record { start = omega (arith, h .place); sum = omega (arith, h .place, h .most); some = omega (arith, h .place, h .most); seen = h .before }
 
   module _ (i left : ℕ) (h : Looking input from i left) (more : i < length input) where
     upTo : NoNewline input from (i + 1 - 1)

@@ -1,9 +1,12 @@
 -- Where a line ends.
-use Prim.Native.Nat.{ℕ, _+_, _-_, _≤_, _<_}
+use Prim.Native.Nat.{ℕ, zero, suc, _+_, _-_, _*_, _≤_, _<_}
 use mathlib.Core.List.{List}
 use mathlib.Core.Path.{_≡_}
 use mathlib.Core.Logic.{_⊎_}
-use lib.ListN.{length, getD}
+use mathlib.Core.Bool.{Bool, _&&_, not, cond}
+use lib.Dec.{eqb, leb}
+use lib.ListN.{length, getD, take, drop}
+use Rattle.rules.specs.Lists.{any}
 use Rattle.ends.specs.declared.End.{End}
 use Rattle.ends.specs.declared.End.the-variants.{At, Past}
 
@@ -11,11 +14,33 @@ use Rattle.ends.specs.declared.End.the-variants.{At, Past}
 pub record NoNewline (input : List ℕ) (from to : ℕ) : Type 0 where
   pub none : (k : ℕ) → from ≤ k → k < to → getD input k 0 ≡ 10 → ⊥
 
--- the line that begins at `from` goes on to `to` at least
-pub record Passed (input : List ℕ) (from to : ℕ) : Type 0 where
-  pub start : from ≤ to
-  pub most : to ≤ from + 256
+-- one stands at a place `at` of these
+pub record Newline (input : List ℕ) (from to : ℕ) : Type 0 where
+  pub at : ℕ
+  pub start : from ≤ at
+  pub before : at < to
+  pub is : getD input at 0 ≡ 10
+
+-- whether a newline is among the n bytes from `from` on
+abbrev pub newlineIn : List ℕ → ℕ → ℕ → Bool
+newlineIn input from n = any (λ c. eqb c 10) (take n (drop from input))
+
+-- 32 bytes are there and none of them is a newline
+abbrev pub plain32 : List ℕ → ℕ → Bool
+plain32 input from = leb (from + 32) (length input) && not (newlineIn input from 32)
+
+-- the place behind as many times 32 such bytes as stand in a row, n times at most
+abbrev pub passedBy : ℕ → List ℕ → ℕ → ℕ
+passedBy zero input from = from
+passedBy (suc n) input from = cond (plain32 input from) (passedBy n input (from + 32)) from
+
+-- `to` is behind k times 32 bytes without a newline; k is n, or the next 32 are not all there or have one
+pub record Passed (n : ℕ) (input : List ℕ) (from to : ℕ) : Type 0 where
+  pub k : ℕ
+  pub most : k ≤ n
+  pub place : to ≡ from + 32 * k
   pub before : NoNewline input from to
+  pub stops : (k ≡ n) ⊎ ((length input < to + 32) ⊎ Newline input to (to + 32))
 
 -- a line begins at `from` and ends before `to`: with a newline, or at 259 bytes, which are no line any more
 pub record LineEnd (input : List ℕ) (from to : ℕ) : Type 0 where

@@ -1,9 +1,8 @@
 // Where a line ends.
 ghost use Prim.Native.Nat.{_+_, _≤_};
 ghost use mathlib.Core.Path.{_≡_};
-ghost use mathlib.Core.Bool.{false};
 ghost use lib.ListN.{length};
-ghost use Rattle.ends.specs.Ends.{NoNewline, Passed, EndPost};
+ghost use Rattle.ends.specs.Ends.{newlineIn, passedBy, EndPost};
 
 // A line ends behind its newline, or behind 259 bytes without one, which are no line any more; or it goes on past the input.
 pub enum End {
@@ -14,7 +13,7 @@ pub enum End {
 // Whether a newline stands in the 32 bytes from a place on. All of them are looked at, sixteen at once without a branch.
 fn has_newline(input: &[u8], from: usize) -> bool
     requires { ⌜ from + 32 ≤ length (now input) ⌝ }
-    ensures { λ r. ⌜ (r ≡ false → NoNewline (now (input .entry)) from (from + 32)) ⌝ }
+    ensures { λ r. ⌜ r ≡ newlineIn (now (input .entry)) from 32 ⌝ }
 {
     let mut seen = false;
     let mut k: usize = 0;
@@ -25,9 +24,9 @@ fn has_newline(input: &[u8], from: usize) -> bool
     seen
 }
 
-// A place at most 256 bytes on, up to which no newline stands.
+// Passes up to eight times 32 bytes that have no newline.
 fn passed(input: &[u8], from: usize) -> usize
-    ensures { λ r. ⌜ Passed (now (input .entry)) from r ⌝ }
+    ensures { λ r. ⌜ r ≡ passedBy 8 (now (input .entry)) from ⌝ }
 {
     let n = input.len();
     let mut i = from;

@@ -1,111 +1,24 @@
--- What is written, part by part: digits, a line, lines one after the other.
-use Prim.Native.Nat.{ℕ, zero, suc, _+_, _-_, _*_, _/_, _%_, _≤_, _<_}
+-- The lines that are printed, one after the other.
+use Prim.Native.Nat.{ℕ, zero, suc, _+_, _-_, _*_, _/_, _%_, _≤_, _<_, min}
 use native.Mathlib.Omega.{arith}
 use mathlib.Core.Path.{_≡_, refl, sym, ap, ap₂, _∙_}
-use mathlib.Core.Bool.{Bool, true, false, cond}
+use mathlib.Core.Bool.{Bool, true, false}
 use mathlib.Core.List.{List, [], _∷_, _++_, append-assoc, append-nil}
-use lib.Dec.{leb, ltb}
-use lib.ListN.{length, getD, take, drop, set, length-append, length-drop, length-set}
-use lib.Seq.{take-suc, take-length, take-append-seam, drop-append-seam, drop-drop, length-take-le}
-use borrow.Author.Tests.{lt-ltb, le-ltb, le-leb, lt-leb, leb-true, leb-false}
+use lib.Dec.{leb}
+use lib.ListN.{length, take, drop, length-append, length-drop}
+use lib.Seq.{take-append-seam, drop-append-seam, drop-drop, length-take-le}
+use borrow.Author.Tests.{le-leb, lt-leb, leb-true, leb-false}
 use Rattle.rules.specs.declared.Reply.{Reply}
 use Rattle.rules.specs.declared.Totals.{Totals}
-use Rattle.rules.specs.Buffers.{over-at}
+use Rattle.rules.specs.Buffers.{over, over-at}
 use Rattle.rules.specs.Records.{recordOf, records, bytes}
-use Rattle.rules.proofs.Buffers.{put-one, put-two, over-at-nil, over-at-next, bytes-two}
-use Rattle.frames.specs.Writing.{glyph, hexadecimal, written, replyLine, replyLines, recordLines, totalsBytes, totalsLine, refusalLine}
+use Rattle.rules.proofs.Buffers.{bytes-two}
+use Rattle.rules.proofs.Joining.{records-length}
+use Rattle.hexadecimal.specs.Digits.{written}
+use Rattle.hexadecimal.proofs.Parts.{Putting, putting-start, putting-next}
+use Rattle.hexadecimal.proofs.Digits.{written-length}
+use Rattle.frames.specs.Writing.{replyLine, replyLines, recordLines, firstLines, totalsBytes, totalsLine}
 use Rattle.frames.specs.Post.{WritePost}
-
--- ---- digits
-
-pub glyph-number : (x : ℕ) → x < 10 → 48 + x ≡ glyph x
-unfolding glyph
-glyph-number x h = rw (lt-ltb x 10 h)
-
-pub glyph-letter : (x : ℕ) → 10 ≤ x → 87 + x ≡ glyph x
-unfolding glyph
-glyph-letter x h = rw (le-ltb x 10 h)
-
-pub hexadecimal-length : (l : List ℕ) → length (hexadecimal l) ≡ 2 * length l
-hexadecimal-length [] = refl
-hexadecimal-length (x ∷ l) = omega (arith, hexadecimal-length l)
-
-hexadecimal-append : (l m : List ℕ) → hexadecimal (l ++ m) ≡ hexadecimal l ++ hexadecimal m
-hexadecimal-append [] m = refl
-hexadecimal-append (x ∷ l) m = ap (λ (r : List ℕ). glyph (x / 16) ∷ glyph (x % 16) ∷ r) (hexadecimal-append l m)
-
-pub written-length : (l : List ℕ) → length (written l) ≡ 2 * length l + 1
-written-length l = omega (arith, length-append (hexadecimal l) (10 ∷ []), hexadecimal-length l)
-
-pub byte-put : (b : List ℕ) (at x g h : ℕ) → at + 2 ≤ length b → g ≡ glyph (x / 16) → h ≡ glyph (x % 16) → set (set b at g) (at + 1) h ≡ over-at (hexadecimal (x ∷ [])) at b
-byte-put b at x g h l p q = put-two b at g h l ∙ ap₂ (λ (y z : ℕ). over-at (y ∷ z ∷ []) at b) p q
-
--- ---- parts one after the other
-
-pub over-at-length : (l : List ℕ) (at : ℕ) (b : List ℕ) → at + length l ≤ length b → length (over-at l at b) ≡ length b
-unfolding over-at
-over-at-length l at b h =
-    length-append (take at b ++ l) (drop (at + length l) b)
-    ∙ omega (arith, length-append (take at b) l, length-take-le at b (omega arith), length-drop (at + length l) b)
-
--- the first i of n parts stand in the buffer; F i are their bytes
-pub record Putting (F : ℕ → List ℕ) (n at : ℕ) (b₀ b : List ℕ) (i : ℕ) : Type 0 where
-  pub most : i ≤ n
-  pub size : length b ≡ length b₀
-  pub is : b ≡ over-at (F i) at b₀
-
-pub putting-start : (F : ℕ → List ℕ) (n at : ℕ) (b : List ℕ) → F 0 ≡ [] → Putting F n at b b 0
-putting-start F n at b e = record { most = omega arith; size = refl; is = sym (over-at-nil at b) ∙ ap (λ (l : List ℕ). over-at l at b) (sym e) }
-
-pub putting-next : (F : ℕ → List ℕ) (n at : ℕ) (b₀ b b′ part : List ℕ) (i to : ℕ) → F (i + 1) ≡ F i ++ part → to ≡ at + length (F i) → to + length part ≤ length b₀ → i < n
-    → b′ ≡ over-at part to b → Putting F n at b₀ b i → Putting F n at b₀ b′ (i + 1)
-putting-next F n at b₀ b b′ part i to more e room l p h =
-    record {
-      most = omega arith;
-      size = ap length p ∙ over-at-length part to b (omega (arith, h .size)) ∙ h .size;
-      is = over-at-next (F i) part b₀ b b′ at to e (omega arith) (h .is) p ∙ ap (λ (r : List ℕ). over-at r at b₀) (sym more);
-    }
-
--- ---- bytes as digits
-
-module _ (body : List ℕ) where
-  abbrev pub digitsTo : ℕ → List ℕ
-  digitsTo i = hexadecimal (take i body)
-
-  pub digits-start : (at : ℕ) (b : List ℕ) → Putting digitsTo (length body) at b b 0
-  digits-start at b = putting-start digitsTo (length body) at b refl
-
-  pub digits-next : (at : ℕ) (b₀ b b′ : List ℕ) (i : ℕ) → at + 2 * length body ≤ length b₀ → i < length body
-      → b′ ≡ over-at (hexadecimal (getD body i 0 ∷ [])) (at + 2 * i) b → Putting digitsTo (length body) at b₀ b i → Putting digitsTo (length body) at b₀ b′ (i + 1)
-  digits-next at b₀ b b′ i room l p h =
-      putting-next digitsTo (length body) at b₀ b b′ (hexadecimal (getD body i 0 ∷ [])) i (at + 2 * i)
-      (ap (λ (k : ℕ). hexadecimal (take k body)) {x = i + 1} {y = suc i} (omega arith) ∙ ap hexadecimal (take-suc body i 0 l) ∙ hexadecimal-append (take i body) (getD body i 0 ∷ []))
-      (omega (arith, hexadecimal-length (take i body), length-take-le i body (omega arith)))
-      (omega arith)
-      l p h
-
-  pub digits-end : (at : ℕ) (b₀ b : List ℕ) (i : ℕ) → length body ≤ i → Putting digitsTo (length body) at b₀ b i → b ≡ over-at (hexadecimal body) at b₀
-  digits-end at b₀ b i l h =
-      h .is ∙ ap (λ (k : ℕ). over-at (hexadecimal (take k body)) at b₀) {x = i} {y = length body} (omega (arith, h .most))
-      ∙ ap (λ (r : List ℕ). over-at (hexadecimal r) at b₀) (take-length body)
-
--- ---- a line
-
-module _ (kind : ℕ) (body : List ℕ) (at : ℕ) (b b₁ b₂ : List ℕ) (room : at + (2 * length body + 3) ≤ length b)
-    (first : b₁ ≡ over-at (hexadecimal (kind ∷ [])) at b) (second : b₂ ≡ over-at (hexadecimal body) (at + 2) b₁) where
-  line-size : length b₂ ≡ length b
-  line-size =
-      let l : length b₁ ≡ length b = ap length first ∙ over-at-length (hexadecimal (kind ∷ [])) at b (omega arith) in
-      ap length second ∙ over-at-length (hexadecimal body) (at + 2) b₁ (omega (arith, l, hexadecimal-length body)) ∙ l
-
-  pub line-same : (to : ℕ) → length (set b₂ to 10) ≡ length b
-  line-same to = length-set b₂ to 10 ∙ line-size
-
-  pub line-put : (to : ℕ) → to ≡ at + 2 + 2 * length body → set b₂ to 10 ≡ over-at (written (kind ∷ body)) at b
-  line-put to e =
-      over-at-next (hexadecimal (kind ∷ body)) (10 ∷ []) b b₂ (set b₂ to 10) at to (omega (arith, e, hexadecimal-length body)) (omega (arith, e))
-      (over-at-next (hexadecimal (kind ∷ [])) (hexadecimal body) b b₁ b₂ at (at + 2) refl (omega arith) first second)
-      (put-one b₂ to 10 (omega (arith, e, line-size)))
 
 -- ---- records, each on a line
 
@@ -152,6 +65,19 @@ reply-lines (r ∷ l) x =
     ∙ ap₂ (λ (y z : List ℕ). written (17 ∷ y) ++ recordLines (length l) z) (take-append-seam (recordOf r) (records l ++ x)) (drop-append-seam (recordOf r) (records l ++ x))
     ∙ ap (λ (z : List ℕ). replyLine r ++ z) (reply-lines l x)
 
+pub replies-length : (F : List Reply) → length (replyLines F) ≡ 39 * length F
+replies-length F =
+    ap length (sym (reply-lines F [])) ∙ lines-length (length F) (records F ++ []) (omega (arith, records-length F, length-append (records F) []))
+
+-- as many records as were handed out stand at the start of a lent buffer: their lines are those of the replies
+pub first-lines : (F : List Reply) (h h₀ : List ℕ) (n : ℕ) → h ≡ over (records F) h₀ → n ≡ length F → 18 * length F ≤ length h₀ → firstLines n h ≡ replyLines F
+unfolding over
+first-lines F h h₀ n is count few =
+    ap₂ recordLines {x = min n (length h / 18)} {y = length F} (omega (arith, count, few, ap length is, size)) is ∙ reply-lines F (drop (length (records F)) h₀)
+  where
+    size : length (records F ++ drop (length (records F)) h₀) ≡ length h₀
+    size = length-append (records F) (drop (length (records F)) h₀) ∙ omega (arith, few, records-length F, length-drop (length (records F)) h₀)
+
 -- ---- totals
 
 pub totals-are : (t : Totals)
@@ -196,16 +122,14 @@ module _ (l : List ℕ) (at : ℕ) (b : List ℕ) (n : ℕ) (size : length l ≡
       let h : leb (at + length l) (length b) ≡ true = ap (λ (k : ℕ). leb (at + k) (length b)) size ∙ q in
       record { result = rw h (ap (λ (k : ℕ). at + k) (sym size)); buffer = rw h p }
 
-module _ (l : List ℕ) (at : ℕ) (b : List ℕ) where
-  abbrev whole : ℕ
-  whole = length l / 18
+-- n of the records of l
+module _ (l : List ℕ) (count n : ℕ) (is : n ≡ min count (length l / 18)) (at : ℕ) (b : List ℕ) where
+  records-size : length (firstLines count l) ≡ 39 * n
+  records-size = lines-length (min count (length l / 18)) l (omega arith) ∙ ap (λ (k : ℕ). 39 * k) (sym is)
 
-  records-size : length (recordLines whole l) ≡ 39 * whole
-  records-size = lines-length whole l (omega arith)
+  pub records-none : length b < at + 39 * n → WritePost (firstLines count l) at b at b
+  records-none h = write-none (firstLines count l) at b (39 * n) records-size (lt-leb (at + 39 * n) (length b) h)
 
-  pub records-none : length b < at + 39 * (length l / 18) → WritePost (recordLines (length l / 18) l) at b at b
-  records-none h = write-none (recordLines whole l) at b (39 * whole) records-size (lt-leb (at + 39 * whole) (length b) h)
-
-  pub records-all : at + 39 * (length l / 18) ≤ length b → (b′ : List ℕ) → b′ ≡ over-at (recordLines (length l / 18) l) at b
-      → WritePost (recordLines (length l / 18) l) at b (at + 39 * (length l / 18)) b′
-  records-all h = write-all (recordLines whole l) at b (39 * whole) records-size (le-leb (at + 39 * whole) (length b) h)
+  pub records-all : at + 39 * n ≤ length b → (b′ : List ℕ) → b′ ≡ over-at (recordLines n l) at b → WritePost (firstLines count l) at b (at + 39 * n) b′
+  records-all h b′ p =
+      write-all (firstLines count l) at b (39 * n) records-size (le-leb (at + 39 * n) (length b) h) b′ (p ∙ ap (λ (k : ℕ). over-at (recordLines k l) at b) is)

@@ -1,25 +1,12 @@
--- Frames as they are written: each byte as two digits, the high one first, and a newline behind them.
-use Prim.Native.Nat.{ℕ, zero, suc, _+_, _/_, _%_}
-use mathlib.Core.Bool.{cond}
+-- Frames as they are written.
+use Prim.Native.Nat.{ℕ, zero, suc, _/_, _%_, min}
 use mathlib.Core.List.{List, [], _∷_, _++_}
-use lib.Dec.{ltb}
-use lib.ListN.{take, drop}
+use lib.ListN.{length, take, drop}
 use Rattle.rules.specs.declared.Reply.{Reply}
 use Rattle.rules.specs.declared.Totals.{Totals}
 use Rattle.rules.specs.Samples.{Trace}
 use Rattle.rules.specs.Records.{bytes, recordOf}
-
--- 0 to 9 from byte 48 on, a to f from byte 97 on
-unfoldable pub glyph : ℕ → ℕ
-glyph x = cond (ltb x 10) (48 + x) (87 + x)
-
-abbrev pub hexadecimal : List ℕ → List ℕ
-hexadecimal [] = []
-hexadecimal (x ∷ l) = glyph (x / 16) ∷ glyph (x % 16) ∷ hexadecimal l
-
--- "Lower-case hexadecimal, each line ended by byte 10."
-abbrev pub written : List ℕ → List ℕ
-written l = hexadecimal l ++ 10 ∷ []
+use Rattle.hexadecimal.specs.Digits.{written}
 
 -- ---- "In: `01` mode (1 byte) azimuth (2); `02` with 1 to 64 flag, value pairs; `03` close."
 
@@ -51,6 +38,10 @@ replyLines (r ∷ l) = replyLine r ++ replyLines l
 abbrev pub recordLines : ℕ → List ℕ → List ℕ
 recordLines zero l = []
 recordLines (suc n) l = written (17 ∷ take 18 l) ++ recordLines n (drop 18 l)
+
+-- the lines of the first n records, or of as many as there are
+abbrev pub firstLines : ℕ → List ℕ → List ℕ
+firstLines n l = recordLines (min n (length l / 18)) l
 
 unfoldable pub totalsBytes : Totals → List ℕ
 unfolding bytes

@@ -4,8 +4,8 @@ ghost use mathlib.Core.Path.{_≡_};
 ghost use mathlib.Core.List.{[]};
 ghost use Rattle.front.specs.Words.{frontOf};
 ghost use Rattle.front.specs.Post.{AdvancePost, blank};
-use edges::detection::Past;
-use edges::detection::detect_or_skip;
+use edges::Past;
+use edges::detect_or_skip;
 use packing::Planes;
 use plane::slide;
 

@@ -1,5 +1,5 @@
 -- Lines of samples taken as one piece: the sweep takes the piece if and only if it takes the lines, and the replies are the same.
-use Prim.Native.Nat.{ℕ, zero, suc, _+_, _-_, _*_, _/_, _≤_, _<_, min}
+use Prim.Native.Nat.{ℕ, zero, suc, _+_, _-_, _*_, _≤_, _<_}
 use native.Mathlib.Omega.{arith}
 use mathlib.Core.Path.{_≡_, refl, sym, ap, ap₂, _∙_, subst}
 use mathlib.Core.Logic.{_⊎_, inl, inr}
@@ -14,35 +14,35 @@ use Rattle.rules.specs.Settings.{standard}
 use Rattle.rules.specs.Lists.{any}
 use Rattle.rules.specs.Samples.{Trace, _⧺_, bad, pieceLimit, sweepLimit}
 use Rattle.rules.specs.Buffers.{over, over-at}
-use Rattle.rules.specs.Calls.{Answer as Verdict, accepted, refused, takeAnswer, takeRoom, fresh, handed}
+use Rattle.rules.specs.Calls.{Answer, accepted, refused, takeAnswer, takeRoom, fresh, handed}
 use Rattle.rules.proofs.Truth.{impossible, or-left, or-right}
 use Rattle.rules.proofs.ListLaws.{all-append}
 use Rattle.rules.proofs.Buffers.{put-one, over-at-nil}
 use Rattle.rules.proofs.Joining.{handed-fresh, append-same, fresh-join}
 use Rattle.rules.proofs.HandingOut.{fresh-most}
 use Rattle.sweep.specs.declared.Answer.the-variants.{Accepted, Refused}
-use Rattle.sweep.specs.declared.Processor.{Processor}
+use Rattle.processor.specs.declared.Processor.{Processor}
 use Rattle.sweep.specs.declared.Taken.{Taken}
-use Rattle.sweep.specs.State.{Sweep, none, running, Sound, Made}
-use Rattle.sweep.specs.Post.{longer, takeVerdict, TakePost}
+use Rattle.processor.specs.State.{Sweep, none, running, Sound, Made}
+use Rattle.sweep.specs.Post.{longer, takeAnswerAt, TakePost}
 use Rattle.rules.proofs.Answers.{standard-allowed, took, join-assoc, join-nothing}
 use Rattle.reading.specs.declared.Line.{Line}
 use Rattle.reading.specs.Frames.{Reading, opening, samples, closing, reading, refused as unread}
-use Rattle.frames.specs.Writing.{replyLine, replyLines, recordLines}
+use Rattle.frames.specs.Writing.{replyLine, replyLines, firstLines}
 use Rattle.reading.specs.Post.{lineOf, flagsAfter, valuesAfter, ReadPost}
 use Rattle.frames.specs.Post.{WritePost}
 use Rattle.reading.proofs.Sizes.{Sized, reading-sized}
-use Rattle.frames.proofs.Printing.{over-at-length, Putting, putting-start, putting-next}
+use Rattle.hexadecimal.proofs.Parts.{over-at-length, Putting, putting-start, putting-next}
 use Rattle.lines.specs.declared.batch.Gathering.{Gathering}
 use Rattle.lines.specs.declared.batch.Batched.{Batched}
 use Rattle.lines.specs.declared.scan.Scan.the-variants.{Rest}
 use Rattle.ends.specs.Ends.{LineEnd}
-use Rattle.carry.specs.Outcomes.{Outcome, goes, takenAs, freshOf, carried, lineAt}
-use Rattle.carry.specs.Post.{pieceOf, countIn}
+use Rattle.answers.specs.Outcomes.{Outcome, goes, takenAs, freshOf, outcomeAt, lineAt}
+use Rattle.answers.specs.Post.{pieceOf, countIn}
 use Rattle.lines.specs.Survey.{linesIn, further, surveyed}
 use Rattle.lines.specs.Post.{Scans}
 use Rattle.lines.specs.Batches.{beginsSamples, samplesIn, AddPost, Takes, Gathered, GatherPost, batchAs, printedAs, TakeAllPost, BatchPost}
-use Rattle.carry.proofs.Carrying.{Wrote, write-inside, flags-lent, values-lent, said-most, turned-down, given-back, carried-out, went-on, replies-wrote}
+use Rattle.answers.proofs.Answering.{Wrote, write-inside, flags-lent, values-lent, said-most, turned-down, given-back, was-accepted, went-on, replies-wrote}
 use Rattle.lines.proofs.Scanning.{good-take, part, survey-first}
 
 -- ---- the first two characters
@@ -159,12 +159,12 @@ takes-second (running mode azimuth T) A B t =
       good = any-second (A .flags) (B .flags) (t .good);
     }
 
-skip : (c : Bool) (k : ℕ) (v : Verdict) → c ≡ false → cond c (refused k) v ≡ v
+skip : (c : Bool) (k : ℕ) (v : Answer) → c ≡ false → cond c (refused k) v ≡ v
 skip c k v e = ap (λ (t : Bool). cond t (refused k) v) e
 
 takes-accepted : (σ : Sweep) (P : Trace) (room : ℕ) → Takes σ P → length (P .flags) ≡ length (P .values) → length (P .flags) ≤ pieceLimit → takeRoom (length (P .flags)) ≤ room
-    → takeVerdict σ P room ≡ accepted
-unfolding takeVerdict takeAnswer
+    → takeAnswerAt σ P room ≡ accepted
+unfolding takeAnswerAt takeAnswer
 takes-accepted none P room t a p r = absurd (impossible (sym (t .is-open)))
 takes-accepted (running mode azimuth T) P room t a p r =
     let n = length (P .flags) in
@@ -178,8 +178,8 @@ takes-accepted (running mode azimuth T) P room t a p r =
     ∙ skip (ltb room (takeRoom n)) 7 v8 (le-ltb room (takeRoom n) r)
     ∙ skip (any bad (P .flags)) 8 accepted (t .good)
 
-accepted-takes : (σ : Sweep) (P : Trace) (room : ℕ) → takeVerdict σ P room ≡ accepted → Takes σ P
-unfolding takeVerdict takeAnswer
+accepted-takes : (σ : Sweep) (P : Trace) (room : ℕ) → takeAnswerAt σ P room ≡ accepted → Takes σ P
+unfolding takeAnswerAt takeAnswer
 accepted-takes none P room e = absurd (let z : _≡_ {A = ℕ} 0 1 = cc in omega arith)
 accepted-takes (running mode azimuth T) P room e =
     let t = took true (length (T .flags)) (P .flags) (P .values) room e in
@@ -237,8 +237,8 @@ module _ (input : List ℕ) (from i to : ℕ) (T : Trace) (g : Gathered input fr
     where
       says : (σ : Sweep) → Takes σ P → lineAt σ (part input i to) ≡ goes (longer σ P) (replyLines (freshOf σ P))
       says σ t =
-          ap (carried σ) e
-          ∙ ap (λ (v : Verdict). takenAs v σ P) (takes-accepted σ P 72 t (z .alike) (omega (arith, z .most)) (omega (arith, z .most)))
+          ap (outcomeAt σ) e
+          ∙ ap (λ (v : Answer). takenAs v σ P) (takes-accepted σ P 72 t (z .alike) (omega (arith, z .most)) (omega (arith, z .most)))
 
       both : (σ : Sweep) → Sound σ → Takes σ (T ⧺ P) → (R : List ℕ)
           → surveyed (linesIn (drop from input ++ R)) σ ≡ replyLines (freshOf σ (T ⧺ P)) ++ surveyed (linesIn (drop to input ++ R)) (longer σ (T ⧺ P))
@@ -339,7 +339,7 @@ part-short (x ∷ l) (suc n) (suc m) h = omega (arith, part-short l n m (omega a
 
 module _ (p : Processor) (T : Trace) (from to at : ℕ) (b : List ℕ) (room : at + 3120 ≤ length b) (small : length (T .flags) ≤ 4096)
     (h₀ h : List ℕ) (lent : length h₀ ≡ 1440) (t : Taken) (post : TakePost p T h₀ t h) where
-  few : (σ : Sweep) → length (freshOf σ T) ≤ 80
+  few : (σ : Sweep) → 18 * length (freshOf σ T) ≤ 1440
   few none = omega arith
   few (running mode azimuth T₀) = omega (arith, fresh-most standard T₀ T)
 
@@ -349,28 +349,28 @@ module _ (p : Processor) (T : Trace) (from to at : ℕ) (b : List ℕ) (room : a
         either = inl refl;
         inside = omega arith;
         result = λ σ m.
-            ap (λ (q : Processor). record { processor = q; from = from; at = at }) (given-back p at b T 1440 80 few h₀ h lent t post k e σ m)
-            ∙ ap (λ (v : Verdict). batchAs v σ T p from to at) (sym (turned-down p at b T 1440 80 few h₀ h lent t post k e σ m));
-        output = λ σ m. sym (over-at-nil at b) ∙ ap (λ (v : Verdict). over-at (printedAs v σ T) at b) (sym (turned-down p at b T 1440 80 few h₀ h lent t post k e σ m));
+            ap (λ (q : Processor). record { processor = q; from = from; at = at }) (given-back p at b T 1440 few h₀ h lent t post k e σ m)
+            ∙ ap (λ (v : Answer). batchAs v σ T p from to at) (sym (turned-down p at b T 1440 few h₀ h lent t post k e σ m));
+        output = λ σ m. sym (over-at-nil at b) ∙ ap (λ (v : Answer). over-at (printedAs v σ T) at b) (sym (turned-down p at b T 1440 few h₀ h lent t post k e σ m));
       }
 
-  pub all-accepted : (n : ℕ) → t .answer ≡ Accepted n → (size e : ℕ) (b′ : List ℕ) → size ≡ 18 * min n 80
-      → WritePost (recordLines (length (take size h) / 18) (take size h)) at b e b′ → TakeAllPost p T from to at b (record { processor = t .processor; from = to; at = e }) b′
-  all-accepted n q size e b′ cut w =
+  pub all-accepted : (n : ℕ) → t .answer ≡ Accepted n → (e : ℕ) (b′ : List ℕ) → WritePost (firstLines n h) at b e b′
+      → TakeAllPost p T from to at b (record { processor = t .processor; from = to; at = e }) b′
+  all-accepted n q e b′ w =
       record {
         either = inr refl;
-        inside = write-inside (recordLines (length (take size h) / 18) (take size h)) at b e b′ (omega arith) w;
+        inside = write-inside (firstLines n h) at b e b′ (omega arith) w;
         result = λ σ m.
-            ap₂ (λ (x : ℕ) (y : Processor). record { processor = y; from = to; at = x }) (put σ m .place) (went-on p at b T 1440 80 few h₀ h lent t post n q σ m)
-            ∙ ap (λ (v : Verdict). batchAs v σ T p from to at) (sym (accepts σ m));
-        output = λ σ m. put σ m .buffer ∙ ap (λ (v : Verdict). over-at (printedAs v σ T) at b) (sym (accepts σ m));
+            ap₂ (λ (x : ℕ) (y : Processor). record { processor = y; from = to; at = x }) (put σ m .place) (went-on p at b T 1440 few h₀ h lent t post n q σ m)
+            ∙ ap (λ (v : Answer). batchAs v σ T p from to at) (sym (accepts σ m));
+        output = λ σ m. put σ m .buffer ∙ ap (λ (v : Answer). over-at (printedAs v σ T) at b) (sym (accepts σ m));
       }
     where
-      accepts : (σ : Sweep) → Made σ p → takeVerdict σ T 1440 ≡ accepted
-      accepts σ m = carried-out p at b T 1440 80 few h₀ h lent t post n q σ m
+      accepts : (σ : Sweep) → Made σ p → takeAnswerAt σ T 1440 ≡ accepted
+      accepts σ m = was-accepted p at b T 1440 few h₀ h lent t post n q σ m
 
       put : (σ : Sweep) → Made σ p → Wrote (replyLines (freshOf σ T)) at b e b′
-      put σ m = replies-wrote p at b T 1440 80 few h₀ h lent t post n q σ m size e b′ cut (omega arith) w
+      put σ m = replies-wrote p at b T 1440 few h₀ h lent t post n q σ m e b′ (omega (arith, few σ)) w
 
 -- ---- the lines of the piece
 
@@ -380,35 +380,35 @@ batch-nothing p input from at b =
       start = omega arith;
       reach = λ h. h;
       inside = λ h. h;
-      still = λ h. (refl, refl);
+      past-end = λ h. (refl, refl);
       scans = λ σ m. record { new = []; next = σ; made = m; place = omega arith; output = sym (over-at-nil at b); why = tt; same = λ R. refl };
     }
 
 module _ (p : Processor) (input : List ℕ) (from to at : ℕ) (b : List ℕ) (room : at + 3120 ≤ length b) (T : Trace) (g : Gathered input from to T)
     (r : Batched) (b′ : List ℕ) (post : TakeAllPost p T from to at b r b′) where
-  scans-by : (σ : Sweep) (m : Made σ p) (v : Verdict) → takeVerdict σ T 1440 ≡ v
+  scans-by : (σ : Sweep) (m : Made σ p) (v : Answer) → takeAnswerAt σ T 1440 ≡ v
       → Scans σ input from at b (record { scan = Rest; processor = r .processor; from = r .from; at = r .at }) b′
   scans-by σ m accepted e =
-      let is : r ≡ batchAs accepted σ T p from to at = post .result σ m ∙ ap (λ (v : Verdict). batchAs v σ T p from to at) e in
+      let is : r ≡ batchAs accepted σ T p from to at = post .result σ m ∙ ap (λ (v : Answer). batchAs v σ T p from to at) e in
       record {
         new = replyLines (freshOf σ T);
         next = longer σ T;
         made = record { is = ap (λ (x : Batched). x .processor) is; sound = good-take σ (m .sound) T (g .bytes) 1440 accepted e };
         place = ap (λ (x : Batched). x .at) is;
-        output = post .output σ m ∙ ap (λ (v : Verdict). over-at (printedAs v σ T) at b) e;
+        output = post .output σ m ∙ ap (λ (v : Answer). over-at (printedAs v σ T) at b) e;
         why = tt;
         same = λ R.
             g .same σ (m .sound) (accepted-takes σ T 1440 e) R
             ∙ ap (λ (k : ℕ). replyLines (freshOf σ T) ++ surveyed (linesIn (drop k input ++ R)) (longer σ T)) (sym (ap (λ (x : Batched). x .from) is));
       }
   scans-by σ m (refused k) e =
-      let is : r ≡ batchAs (refused k) σ T p from to at = post .result σ m ∙ ap (λ (v : Verdict). batchAs v σ T p from to at) e in
+      let is : r ≡ batchAs (refused k) σ T p from to at = post .result σ m ∙ ap (λ (v : Answer). batchAs v σ T p from to at) e in
       record {
         new = [];
         next = σ;
         made = record { is = ap (λ (x : Batched). x .processor) is ∙ m .is; sound = m .sound };
         place = ap (λ (x : Batched). x .at) is ∙ omega arith;
-        output = post .output σ m ∙ ap (λ (v : Verdict). over-at (printedAs v σ T) at b) e;
+        output = post .output σ m ∙ ap (λ (v : Answer). over-at (printedAs v σ T) at b) e;
         why = tt;
         same = λ R. ap (λ (k : ℕ). surveyed (linesIn (drop k input ++ R)) σ) (sym (ap (λ (x : Batched). x .from) is));
       }
@@ -419,8 +419,8 @@ module _ (p : Processor) (input : List ℕ) (from to at : ℕ) (b : List ℕ) (r
         start = begins (post .either);
         reach = λ h. reaches h (post .either);
         inside = λ h. post .inside;
-        still = λ h. absurd (omega (arith, room, h));
-        scans = λ σ m. scans-by σ m (takeVerdict σ T 1440) refl;
+        past-end = λ h. absurd (omega (arith, room, h));
+        scans = λ σ m. scans-by σ m (takeAnswerAt σ T 1440) refl;
       }
     where
       begins : (r .from ≡ from) ⊎ (r .from ≡ to) → from ≤ r .from

@@ -7,34 +7,33 @@ use mathlib.Core.Bool.{Bool, true, false, not, cond, _&&_}
 use mathlib.Core.List.{List, [], _∷_, _++_, append-assoc, append-nil}
 use lib.Dec.{leb, ltb, eqb}
 use lib.ListN.{length, getD, take, drop, length-append, length-drop, take-append-drop}
-use lib.Seq.{getD-take, getD-drop, length-take-le, drop-drop, take-suc, getD-append-seam, getD-at}
+use lib.Seq.{getD-take, getD-drop, length-take-le, drop-drop, take-suc}
 use borrow.Author.Tests.{leb-true, leb-false, eqb-true, eqb-false, ne-eqb}
 use Rattle.rules.specs.Lists.{All}
-use Rattle.rules.specs.Samples.{Trace, _⧺_, sweepLimit}
+use Rattle.rules.specs.Samples.{Trace}
 use Rattle.rules.specs.Buffers.{over-at}
-use Rattle.rules.specs.Calls.{Answer as Verdict, accepted, refused, openAnswer, takeAnswer}
+use Rattle.rules.specs.Calls.{Answer, accepted, refused, openAnswer}
 use Rattle.rules.proofs.Truth.{and-left}
 use Rattle.rules.proofs.ListLaws.{all-append}
 use Rattle.rules.proofs.Buffers.{over-at-nil, over-at-next}
-use Rattle.sweep.specs.declared.Processor.{Processor}
-use Rattle.sweep.specs.State.{Sweep, none, running, processorOf, Within, Sound, Made}
-use Rattle.sweep.specs.Post.{longer, takeVerdict, closeVerdict}
+use Rattle.processor.specs.declared.Processor.{Processor}
+use Rattle.processor.specs.State.{Sweep, none, running, processorOf, Sound, Made}
+use Rattle.sweep.specs.Post.{takeAnswerAt, closeAnswerAt}
 use Rattle.rules.proofs.Answers.{took}
 use Rattle.reading.specs.Frames.{Reading, opening, samples, closing, reading, refused as unread}
 use Rattle.frames.specs.Writing.{refusalLine}
 use Rattle.reading.proofs.Sizes.{Sized, reading-sized, no-newline, too-long}
 use Rattle.ends.specs.Ends.{NoNewline, LineEnd, LinePast}
 use Rattle.ends.proofs.Newlines.{Plain, plain, plain-last}
-use Rattle.carry.specs.declared.Step.{Step}
-use Rattle.carry.specs.declared.Step.the-variants.{Goes, Stops, Full}
-use Rattle.carry.specs.declared.Stepped.{Stepped}
-use Rattle.carry.specs.Outcomes.{Outcome, goes, stops, openedAs, takenAs, closedAs, carried, lineAt, printed}
-use Rattle.carry.specs.Post.{steppedAs, outputAs, roomy, placeOf, StepPost}
-use Rattle.carry.proofs.Rest.{nine, rest-nine}
+use Rattle.answers.specs.declared.Step.{Step}
+use Rattle.answers.specs.declared.Step.the-variants.{Goes, Stops, Full}
+use Rattle.answers.specs.declared.Stepped.{Stepped}
+use Rattle.answers.specs.Outcomes.{Outcome, goes, stops, openedAs, takenAs, closedAs, outcomeAt, lineAt, printed}
+use Rattle.answers.specs.Post.{steppedAs, outputAs, hasRoom, placeOf, StepPost}
+use Rattle.answers.proofs.Rest.{nine, rest-nine}
 use Rattle.lines.specs.declared.scan.Scan.the-variants.{Rest, Stopped, Full as NoRoom}
-use Rattle.lines.specs.declared.scan.Scanned.{Scanned}
 use Rattle.lines.specs.Survey.{onto, linesIn, further, surveyed}
-use Rattle.lines.specs.Post.{afterwards, Scans, Because, ScanPost}
+use Rattle.lines.specs.Post.{Scans, ScanPost}
 use Rattle.lines.specs.declared.batch.Batched.{Batched}
 use Rattle.lines.specs.Batches.{BatchPost}
 
@@ -162,8 +161,8 @@ good-open mode azimuth = go (leb 1 mode && leb mode 3) (ltb 16383 azimuth) refl
     go true false e =
         record { named = leb-true 1 mode (and-left (leb 1 mode) (leb mode 3) e); alike = refl; short = omega arith; bytes = tt }
 
-pub good-take : (σ : Sweep) → Sound σ → (P : Trace) → All (λ v. v ≤ 255) (P .values) → (room : ℕ) (v : Verdict) → takeVerdict σ P room ≡ v → Good (takenAs v σ P)
-unfolding takeVerdict
+pub good-take : (σ : Sweep) → Sound σ → (P : Trace) → All (λ v. v ≤ 255) (P .values) → (room : ℕ) (v : Answer) → takeAnswerAt σ P room ≡ v → Good (takenAs v σ P)
+unfolding takeAnswerAt
 good-take none s P b room accepted e = tt
 good-take none s P b room (refused k) e = tt
 good-take (running mode azimuth T) s P b room (refused k) e = tt
@@ -176,19 +175,19 @@ good-take (running mode azimuth T) s P b room accepted e =
       bytes = all-append (λ v. v ≤ 255) (T .values) (P .values) (s .bytes) b;
     }
 
-good-close : (σ : Sweep) (v : Verdict) → Good (closedAs v σ)
+good-close : (σ : Sweep) (v : Answer) → Good (closedAs v σ)
 good-close σ accepted = tt
 good-close σ (refused k) = tt
 
-good-carried : (σ : Sweep) → Sound σ → (x : Reading) → Sized x → Good (carried σ x)
-good-carried σ s (opening mode azimuth) z = good-open mode azimuth
-good-carried σ s (samples P) z = good-take σ s P (z .bytes) 72 (takeVerdict σ P 72) refl
-good-carried σ s closing z = good-close σ (closeVerdict σ 144)
-good-carried σ s (unread k) z = tt
+good-outcome : (σ : Sweep) → Sound σ → (x : Reading) → Sized x → Good (outcomeAt σ x)
+good-outcome σ s (opening mode azimuth) z = good-open mode azimuth
+good-outcome σ s (samples P) z = good-take σ s P (z .bytes) 72 (takeAnswerAt σ P 72) refl
+good-outcome σ s closing z = good-close σ (closeAnswerAt σ 144)
+good-outcome σ s (unread k) z = tt
 
 good-line : (σ : Sweep) → Sound σ → (l : List ℕ) → Good (lineAt σ l)
 unfolding lineAt
-good-line σ s l = good-carried σ s (reading l) (reading-sized l)
+good-line σ s l = good-outcome σ s (reading l) (reading-sized l)
 
 -- ---- a step, taken apart
 
@@ -283,7 +282,7 @@ module _ (p : Processor) (input : List ℕ) (from at : ℕ) (b₀ : List ℕ) wh
       where
         go : (t : Bool) → leb place (length b) ≡ t → Scanning p input from at b₀ (r .processor) (r .from) (r .at) b′
         go false z =
-            let s = g .still (leb-false place (length b) z) in
+            let s = g .past-end (leb-false place (length b) z) in
             subst (λ (x : Batched). Scanning p input from at b₀ (x .processor) (x .from) (x .at) b′) (sym (s .0))
             (subst (Scanning p input from at b₀ q i place) (sym (s .1)) h)
         go true z =
@@ -314,7 +313,7 @@ module _ (p : Processor) (input : List ℕ) (from at : ℕ) (b₀ : List ℕ) wh
         further-on σ m =
             let d = h .scans σ m in
             let o = lineAt (d .next) (part input i to) in
-            let w = went (roomy place b) o q place s e (step .result (d .next) (d .made)) kind in
+            let w = went (hasRoom place b) o q place s e (step .result (d .next) (d .made)) kind in
             let room = leb-true (place + 339) (length b) (w .room) in
             let out : b′ ≡ over-at (w .new) place b =
             step .output (d .next) (d .made) ∙ ap₂ (λ (t : Bool) (x : Outcome). outputAs t x place b) (w .room) (w .is) in
@@ -361,7 +360,7 @@ module _ (p : Processor) (input : List ℕ) (from at : ℕ) (b₀ : List ℕ) wh
             last σ m =
                 let d = h .scans σ m in
                 let o = lineAt (d .next) (part input i to) in
-                let w = stood (roomy place b) o q place s k e (step .result (d .next) (d .made)) kind in
+                let w = stood (hasRoom place b) o q place s k e (step .result (d .next) (d .made)) kind in
                 let room = leb-true (place + 339) (length b) (w .room) in
                 let out : b′ ≡ over-at (refusalLine k) place b =
                 step .output (d .next) (d .made) ∙ ap₂ (λ (t : Bool) (x : Outcome). outputAs t x place b) (w .room) (w .is) in
@@ -386,12 +385,12 @@ module _ (p : Processor) (input : List ℕ) (from at : ℕ) (b₀ : List ℕ) wh
             inside = h .inside;
             because = λ σ m.
                 let d = h .scans σ m in
-                let w = stuck (roomy place b) (lineAt (d .next) (part input i to)) q place s (step .result (d .next) (d .made)) kind in
+                let w = stuck (hasRoom place b) (lineAt (d .next) (part input i to)) q place s (step .result (d .next) (d .made)) kind in
                 omega (arith, leb-false (place + 339) (length b) (w .room), h .size);
             scans = λ σ m.
                 let d = h .scans σ m in
                 let o = lineAt (d .next) (part input i to) in
-                let w = stuck (roomy place b) o q place s (step .result (d .next) (d .made)) kind in
+                let w = stuck (hasRoom place b) o q place s (step .result (d .next) (d .made)) kind in
                 record {
                   new = d .new;
                   next = d .next;

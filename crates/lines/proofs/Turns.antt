@@ -1,20 +1,20 @@
 -- However the input is cut into reads: each scan's contract holds whatever comes behind its input, so the scans fit end to end.
-use Prim.Native.Nat.{ℕ, _+_, _-_, _≤_, _<_}
+use Prim.Native.Nat.{ℕ, _+_, _-_, _≤_}
 use native.Mathlib.Omega.{arith}
 use mathlib.Core.Path.{_≡_, refl, sym, ap, ap₂, _∙_, subst}
 use mathlib.Core.List.{List, [], _∷_, _++_, append-assoc, append-nil}
 use lib.ListN.{length, take, drop}
 use lib.Seq.{take-append-seam, drop-at, length-take-le}
 use Rattle.rules.specs.Buffers.{over-at}
-use Rattle.sweep.specs.declared.Processor.{Processor}
-use Rattle.sweep.specs.State.{Sweep, none, idleProcessor, processorOf, Made}
+use Rattle.processor.specs.declared.Processor.{Processor}
+use Rattle.processor.specs.State.{Sweep, none, idleProcessor, processorOf, Made}
 use Rattle.lines.specs.declared.scan.Scan.{Scan}
 use Rattle.lines.specs.declared.scan.Scan.the-variants.{Rest, Stopped, Full as NoRoom}
 use Rattle.lines.specs.declared.scan.Scanned.{Scanned}
-use Rattle.carry.specs.Outcomes.{Outcome, lineAt, printed}
-use Rattle.lines.specs.Survey.{linesIn, further, surveyed, survey}
-use Rattle.lines.specs.Post.{afterwards, Scans, ScanPost}
-use Rattle.lines.specs.Whole.{Turn, turn, Then, Chain, allRead, allPrinted, lastScan, lastProcessor, lastHeld, Whole, AnyCutting}
+use Rattle.answers.specs.Outcomes.{printed}
+use Rattle.lines.specs.Survey.{linesIn, surveyed, survey}
+use Rattle.lines.specs.Post.{afterwards, Scans}
+use Rattle.lines.specs.Whole.{Turn, turn, Then, Chain, allRead, allPrinted, lastScan, lastProcessor, lastHeld, AnyCutting}
 
 -- what was printed, read back from the output
 read-back : (new : List ℕ) (at place : ℕ) (b b′ : List ℕ) → at ≤ length b → place ≡ at + length new → b′ ≡ over-at new at b → take (place - at) (drop at b′) ≡ new

@@ -9,17 +9,17 @@ use lib.ListN.{length, getD, take, drop}
 use Rattle.rules.specs.Lists.{any, All}
 use Rattle.rules.specs.Samples.{Trace, bad, sweepLimit}
 use Rattle.rules.specs.Buffers.{over-at}
-use Rattle.rules.specs.Calls.{Answer as Verdict, accepted, refused}
-use Rattle.sweep.specs.declared.Processor.{Processor}
-use Rattle.sweep.specs.State.{Sweep, isOpen, takenBy, processorOf, Sound, Made}
-use Rattle.sweep.specs.Post.{longer, takeVerdict}
+use Rattle.rules.specs.Calls.{Answer, accepted, refused}
+use Rattle.processor.specs.declared.Processor.{Processor}
+use Rattle.processor.specs.State.{Sweep, isOpen, takenBy, processorOf, Sound, Made}
+use Rattle.sweep.specs.Post.{longer, takeAnswerAt}
 use Rattle.reading.specs.Frames.{Reading, opening, samples, closing, reading, refused as unread}
 use Rattle.frames.specs.Writing.{replyLines}
 use Rattle.lines.specs.declared.batch.Gathering.{Gathering}
 use Rattle.lines.specs.declared.batch.Batched.{Batched}
 use Rattle.lines.specs.declared.scan.Scan.the-variants.{Rest}
-use Rattle.carry.specs.Outcomes.{freshOf}
-use Rattle.carry.specs.Post.{pieceOf}
+use Rattle.answers.specs.Outcomes.{freshOf}
+use Rattle.answers.specs.Post.{pieceOf}
 use Rattle.lines.specs.Survey.{linesIn, surveyed}
 use Rattle.lines.specs.Post.{Scans}
 
@@ -66,24 +66,24 @@ pub record GatherPost (input : List ℕ) (from : ℕ) (r : Gathering) (flags val
 -- ---- the piece
 
 -- it is taken and its replies printed, or nothing happens
-abbrev pub batchAs : Verdict → Sweep → Trace → Processor → (from to at : ℕ) → Batched
+abbrev pub batchAs : Answer → Sweep → Trace → Processor → (from to at : ℕ) → Batched
 batchAs accepted σ T p from to at = record { processor = processorOf (longer σ T); from = to; at = at + length (replyLines (freshOf σ T)) }
 batchAs (refused k) σ T p from to at = record { processor = p; from = from; at = at }
 
-abbrev pub printedAs : Verdict → Sweep → Trace → List ℕ
+abbrev pub printedAs : Answer → Sweep → Trace → List ℕ
 printedAs accepted σ T = replyLines (freshOf σ T)
 printedAs (refused k) σ T = []
 
 pub record TakeAllPost (p : Processor) (T : Trace) (from to at : ℕ) (b : List ℕ) (r : Batched) (b′ : List ℕ) : Type 0 where
   pub either : (r .from ≡ from) ⊎ (r .from ≡ to)
   pub inside : r .at ≤ length b
-  pub result : (σ : Sweep) → Made σ p → r ≡ batchAs (takeVerdict σ T 1440) σ T p from to at
-  pub output : (σ : Sweep) → Made σ p → b′ ≡ over-at (printedAs (takeVerdict σ T 1440) σ T) at b
+  pub result : (σ : Sweep) → Made σ p → r ≡ batchAs (takeAnswerAt σ T 1440) σ T p from to at
+  pub output : (σ : Sweep) → Made σ p → b′ ≡ over-at (printedAs (takeAnswerAt σ T 1440) σ T) at b
 
 -- the lines so far are carried out; behind the end of the output nothing happens
 pub record BatchPost (p : Processor) (input : List ℕ) (from at : ℕ) (b : List ℕ) (r : Batched) (b′ : List ℕ) : Type 0 where
   pub start : from ≤ r .from
   pub reach : from ≤ length input → r .from ≤ length input
   pub inside : at ≤ length b → r .at ≤ length b
-  pub still : length b < at → (r ≡ record { processor = p; from = from; at = at }) × (b′ ≡ b)
+  pub past-end : length b < at → (r ≡ record { processor = p; from = from; at = at }) × (b′ ≡ b)
   pub scans : (σ : Sweep) → Made σ p → Scans σ input from at b (record { scan = Rest; processor = r .processor; from = r .from; at = r .at }) b′

@@ -4,11 +4,11 @@ use mathlib.Core.List.{List, [], _++_}
 use mathlib.Core.Path.{_≡_}
 use lib.ListN.{length, take, drop}
 use Rattle.rules.specs.Buffers.{over-at}
-use Rattle.sweep.specs.declared.Processor.{Processor}
-use Rattle.sweep.specs.State.{Sweep, Made}
+use Rattle.processor.specs.declared.Processor.{Processor}
+use Rattle.processor.specs.State.{Sweep, Made}
 use Rattle.frames.specs.Writing.{refusalLine}
 use Rattle.ends.specs.Ends.{LineEnd, LinePast}
-use Rattle.carry.specs.Outcomes.{stops, lineAt}
+use Rattle.answers.specs.Outcomes.{stops, lineAt}
 use Rattle.lines.specs.declared.scan.Scan.{Scan}
 use Rattle.lines.specs.declared.scan.Scan.the-variants.{Rest, Stopped, Full as NoRoom}
 use Rattle.lines.specs.declared.scan.Scanned.{Scanned}

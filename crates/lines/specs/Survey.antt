@@ -3,9 +3,9 @@ use Prim.Native.Nat.{ℕ}
 use mathlib.Core.Bool.{cond}
 use mathlib.Core.List.{List, [], _∷_, _++_}
 use lib.Dec.{eqb}
-use Rattle.sweep.specs.State.{Sweep, none}
+use Rattle.processor.specs.State.{Sweep, none}
 use Rattle.frames.specs.Writing.{refusalLine}
-use Rattle.carry.specs.Outcomes.{Outcome, goes, stops, lineAt}
+use Rattle.answers.specs.Outcomes.{Outcome, goes, stops, lineAt}
 
 abbrev pub onto : ℕ → List (List ℕ) → List (List ℕ)
 onto c [] = (c ∷ []) ∷ []

@@ -3,12 +3,12 @@ use Prim.Native.Nat.{ℕ, _-_, _≤_}
 use mathlib.Core.List.{List, [], _∷_, _++_}
 use mathlib.Core.Path.{_≡_}
 use lib.ListN.{length, take, drop}
-use Rattle.sweep.specs.declared.Processor.{Processor}
-use Rattle.sweep.specs.State.{Sweep, idleProcessor, Made}
+use Rattle.processor.specs.declared.Processor.{Processor}
+use Rattle.processor.specs.State.{Sweep, idleProcessor, Made}
 use Rattle.lines.specs.declared.scan.Scan.{Scan}
 use Rattle.lines.specs.declared.scan.Scan.the-variants.{Rest, Stopped, Full as NoRoom}
 use Rattle.lines.specs.declared.scan.Scanned.{Scanned}
-use Rattle.lines.specs.Survey.{linesIn, surveyed, survey}
+use Rattle.lines.specs.Survey.{linesIn, survey}
 use Rattle.lines.specs.Post.{afterwards, ScanPost}
 
 -- A scan: the bytes read before it, what it was lent, what it answered, and the output as it left it.

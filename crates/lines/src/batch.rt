@@ -1,26 +1,28 @@
 // Lines of samples, as many as there are one after the other, are taken as one piece of up to 4,096 ticks. What they print is the same.
 ghost use Prim.Native.Nat.{_+_, _≤_};
 ghost use mathlib.Core.Path.{_≡_};
-ghost use lib.Dec.{leb};
 ghost use lib.ListN.{length, take};
 ghost use Rattle.rules.specs.Buffers.{over-at};
-ghost use Rattle.carry.specs.Post.{countIn, pieceOf};
+ghost use Rattle.answers.specs.Post.{countIn, pieceOf};
 ghost use Rattle.lines.specs.Batches.{beginsSamples, AddPost, GatherPost, TakeAllPost, BatchPost};
-use carry::least;
 use ends::End;
 use ends::line_end;
+use frames::has_room;
 use frames::reply_lines;
+use processor::Processor;
 use reading::Frame;
 use reading::Line;
 use reading::read;
 use sweep::Answer;
-use sweep::Processor;
 use sweep::take;
 
+// 80 replies of 39 bytes: the most that 4,096 ticks print.
+const MOST: usize = 3120;
+
 // n samples, from lines that end before `end`.
-pub struct Gathering {
-    pub end: usize,
-    pub n: usize,
+struct Gathering {
+    end: usize,
+    n: usize,
 }
 
 // `from` is the place in the input behind the last line taken, `at` that in the output behind the last byte printed.
@@ -116,8 +118,7 @@ fn take_all(
             at,
         },
         Answer::Accepted(count) => {
-            let size = 18 * least(count, 80);
-            let end = reply_lines(&handed[..size], out, at);
+            let end = reply_lines(&handed, count, out, at);
             Batched {
                 processor: next,
                 from: to,
@@ -125,17 +126,6 @@ fn take_all(
             }
         }
     }
-}
-
-// Whether 80 replies, the most that 4,096 ticks print, have room.
-fn spacious(out: &[u8], at: usize) -> bool
-    ensures { λ r. ⌜ r ≡ leb (at + 3120) (length (now (out .entry))) ⌝ }
-{
-    let room = out.len();
-    if room < at {
-        return false;
-    }
-    3120 <= room - at
 }
 
 // Whether the line at a place begins as samples do, with 02; if not, a batch is not worth a try.
@@ -156,7 +146,7 @@ fn may_say_samples(input: &[u8], from: usize) -> bool
 pub fn batch(p: Processor, input: &[u8], from: usize, out: &mut [u8], at: usize) -> Batched
     ensures { λ r. ⌜ BatchPost p (now (input .entry)) from at (now (out .entry)) r (now (out .exit)) ⌝ }
 {
-    if !spacious(out, at) {
+    if !has_room(MOST, out, at) {
         return Batched {
             processor: p,
             from,

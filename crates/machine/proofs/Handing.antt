@@ -8,9 +8,9 @@ use Rattle.rules.specs.declared.Place.{Place}
 use Rattle.rules.specs.declared.Counts.{Counts}
 use Rattle.rules.specs.declared.Machine.{Machine}
 use Rattle.places.specs.Places.{idle}
-use Rattle.records.specs.Post.{dueSlot, HandedPost}
-use Rattle.covering.specs.Marks.{withoutPlace}
-use Rattle.front.specs.declared.span.Span.{Span}
+use Rattle.handing.specs.Post.{dueSlot, HandedPost}
+use Rattle.marking.specs.Marks.{withoutPlace}
+use Rattle.span.specs.declared.Span.{Span}
 use Rattle.blocks.specs.Steps.{noneDue}
 use Rattle.blocks.proofs.Working.{Ending, end-over}
 

@@ -15,8 +15,8 @@ use Rattle.rules.proofs.Truth.{impossible}
 use Rattle.places.specs.Places.{test, testSlot, always, idle}
 use Rattle.plane.specs.Words.{bit}
 use Rattle.plane.proofs.BitLaws.{zero-bit}
-use Rattle.covering.specs.declared.Words.{Words}
-use Rattle.covering.specs.Marks.{withoutWord, withoutPlace, behindOf, lastOf, lastIn}
+use Rattle.marking.specs.declared.Words.{Words}
+use Rattle.marking.specs.Marks.{withoutWord, withoutPlace, behindOf, lastOf, lastIn}
 
 abbrev one : Bool → ℕ
 one b = cond b 1 0

@@ -2,58 +2,54 @@
 // The array of the four places is changed where it stands; one place goes by value into a function and comes back.
 ghost use Prim.Native.Nat.{_+_, _<_};
 ghost use mathlib.Core.Path.{_≡_};
-ghost use mathlib.Core.List.{[], _∷_};
 ghost use lib.ListN.{length};
 ghost use Rattle.places.specs.Places.{idle};
-ghost use Rattle.covering.specs.Marks.{four};
 ghost use Rattle.blocks.specs.Feeding.{BlocksPost};
-use blocks::Progress;
+use agreement::agreement_of;
+use agreement::speaks;
 use blocks::block_length;
 use blocks::edge_at;
 use blocks::none_due;
 use blocks::packed;
 use blocks::second_at;
+use blocks::second_tick;
 use blocks::stays;
 use blocks::wanted;
-use covering::any_word;
-use covering::behind;
 use covering::covers_of;
 use covering::risks_of;
-use covering::twice;
-use covering::which;
-use covering::with_word;
-use covering::without_word;
-use front::span::above;
-use front::span::framed;
-use front::span::span_of;
-use front::span::tick_of;
-use front::span::top;
+use firsts::firsts_of;
+use firsts::free;
+use firsts::is_busy;
+use firsts::is_over;
+use firsts::opened;
 use front::words::advance;
+use handing::hand_one;
+use marking::any_word;
+use marking::behind;
+use marking::twice;
+use marking::which;
+use marking::with_word;
+use marking::without_word;
 use masks::open_cover;
 use masks::open_phantom;
 use outcomes::counted;
-use outcomes::firsts_of;
-use outcomes::free;
-use outcomes::is_busy;
-use outcomes::is_over;
-use outcomes::opened;
 use outcomes::opens;
 use outcomes::outcome_of;
 use outcomes::removed_by;
 use plane::lowest;
 use plane::marked;
 use plane::without_lowest;
-use records::hand_one;
-use rules::Machine;
+use processor::Progress;
 use rules::Place;
-use rules::Places;
 use rules::Slot;
 use rules::Tick;
-use settling::agreement_of;
 use settling::heard;
-use settling::speaks;
-
-// ---- the four places as an array, and back
+use span::above;
+use span::has_bracket;
+use span::second_main;
+use span::span_of;
+use span::tick_of;
+use span::top;
 
 // A place as it is, for another place in the array.
 fn kept(p: Place) -> Place
@@ -68,25 +64,12 @@ fn idle_place() -> Place
     Place { slot: Slot::Idle }
 }
 
-fn array_of(p: Places) -> [Place; 4]
-    ensures { λ r. ⌜ r ≡ p .p0 ∷ (p .p1 ∷ (p .p2 ∷ (p .p3 ∷ []))) ⌝ }
+// The four places, of which there are always four.
+fn all_four(p: [Place; 4]) -> [Place; 4]
+    ensures is { λ r. ⌜ r ≡ p ⌝ }
+    ensures four { λ r. ⌜ length r ≡ 4 ⌝ }
 {
-    let p0 = p.p0;
-    let p1 = p.p1;
-    let p2 = p.p2;
-    let p3 = p.p3;
-    [p0, p1, p2, p3]
-}
-
-fn places_of(p: [Place; 4]) -> Places
-    ensures { λ r. ⌜ r ≡ four p ⌝ }
-{
-    Places {
-        p0: p[0],
-        p1: p[1],
-        p2: p[2],
-        p3: p[3],
-    }
+    p
 }
 
 // The progress after the flags of a piece, which begins once `base` ticks are taken. At each visit replies that are over are handed out, then the bracket is
@@ -105,16 +88,17 @@ pub fn work(
 {
     let n = flags.len();
     let mut front = o.front;
-    let m = o.machine;
-    let mut places = array_of(m.places);
-    let mut counts = m.counts;
+    let begun = o.places;
+    let mut places = all_four(begun);
+    let mut counts = o.counts;
     let mut at = o.at;
     let mut done: usize = 0;
     while done < n {
         let r = block_length(n - done);
         let x = packed(flags, done, r);
         done += r;
-        let t = base + done as u32;
+        let taken = base + done as u32;
+        let t = Tick(taken);
         if stays(front, places[0], x, t) {
             continue;
         }
@@ -125,12 +109,13 @@ pub fn work(
             continue;
         }
         let mut on = covers_of(places, t);
+        let mut both = twice(on);
         let mut risk = risks_of(places, t);
         let mut todo = wanted(s, on, due);
         let mut from = 64 - r as u32;
         while todo != 0 {
             let i = lowest(todo);
-            let u = Tick(tick_of(t, i));
+            let u = tick_of(t, i);
             if is_over(places[0], u) {
                 at = hand_one(places[0], u, out, at);
                 places = [
@@ -140,14 +125,15 @@ pub fn work(
                     idle_place(),
                 ];
                 on = without_word(on, 0);
+                both = twice(on);
                 risk = without_word(risk, 0);
                 continue;
             }
             let e = edge_at(s, i, u, recent, base, values);
-            if framed(s, i) {
-                let f2 = second_at(s, i, u, recent, base, values);
+            if has_bracket(s, i) {
+                let w = second_tick(s, i, u);
                 let f = firsts_of(places);
-                let y = outcome_of(f, on, risk, i, e, f2, is_busy(f));
+                let y = outcome_of(f, on, risk, i, e, w, second_main(s, i), is_busy(f));
                 counts = counted(y, counts);
                 let k = removed_by(y);
                 if k < 4 {
@@ -158,10 +144,12 @@ pub fn work(
                         idle_place(),
                     ];
                     on = without_word(on, k);
+                    both = twice(on);
                     risk = without_word(risk, k);
                     continue;
                 }
                 if opens(y) {
+                    let f2 = second_at(s, i, u, recent, base, values);
                     let reply = opened(f, on, i, e, f2);
                     let marks = reply.marks;
                     let j = free(f);
@@ -169,13 +157,14 @@ pub fn work(
                         slot: Slot::Open(reply),
                     };
                     on = with_word(on, j, open_cover(i));
+                    both = twice(on);
                     risk = with_word(risk, j, open_phantom(i, marks.suspect));
                 }
                 todo = wanted(s, on, above(due, i));
             } else {
                 todo = without_lowest(todo);
             }
-            if marked(twice(on), i) {
+            if marked(both, i) {
                 let v = agreement_of(places, on, i, e.value);
                 if marked(on.a, i) {
                     let q = places[0];
@@ -203,7 +192,8 @@ pub fn work(
             from = i + 1;
         }
         while !none_due(places[0], t) {
-            at = hand_one(places[0], Tick(t - 179), out, at);
+            let last = t.0 - 179;
+            at = hand_one(places[0], Tick(last), out, at);
             places = [
                 kept(places[1]),
                 kept(places[2]),
@@ -214,10 +204,8 @@ pub fn work(
     }
     Progress {
         front,
-        machine: Machine {
-            places: places_of(places),
-            counts,
-        },
+        places,
+        counts,
         at,
     }
 }

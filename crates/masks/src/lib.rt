@@ -4,6 +4,7 @@ ghost use mathlib.Core.Path.{_≡_};
 ghost use Rattle.masks.specs.Masks.{coverWord, phantomWord, Across, coversFrom, CoverMask, PhantomMask};
 use plane::marked;
 use plane::slide;
+use rules::Tick;
 
 // Of the ticks from 65 before F1 on, the k-th 64: those that a reply covers.
 fn cover_word(k: u32) -> u64
@@ -42,37 +43,37 @@ fn across(first: u64, second: u64, r: u32) -> u64
 }
 
 // The ticks u from t-242 on that a reply with F1 at q covers.
-pub fn cover_mask(q: u32, t: u32) -> u64
-    requires { ⌜ t < 65000 ⌝ }
-    ensures { λ x. ⌜ CoverMask q t x ⌝ }
+pub fn cover_mask(q: Tick, t: Tick) -> u64
+    requires { ⌜ t .0 < 65000 ⌝ }
+    ensures { λ x. ⌜ CoverMask (q .0) (t .0) x ⌝ }
 {
-    if 65535 < q {
+    if 65535 < q.0 {
         return 0;
     }
-    if t < q + 177 {
+    if t.0 < q.0 + 177 {
         return 0;
     }
-    let g = t - q - 177;
+    let g = t.0 - q.0 - 177;
     let a = cover_word(g / 64);
     let b = cover_word(g / 64 + 1);
     across(a, b, g % 64)
 }
 
 // The ticks u from t-242 on at which a bracket removes a reply with F1 at q.
-pub fn phantom_mask(q: u32, suspect: bool, t: u32) -> u64
-    requires { ⌜ t < 65000 ⌝ }
-    ensures { λ x. ⌜ PhantomMask q suspect t x ⌝ }
+pub fn phantom_mask(q: Tick, suspect: bool, t: Tick) -> u64
+    requires { ⌜ t .0 < 65000 ⌝ }
+    ensures { λ x. ⌜ PhantomMask (q .0) suspect (t .0) x ⌝ }
 {
     if !suspect {
         return 0;
     }
-    if 65535 < q {
+    if 65535 < q.0 {
         return 0;
     }
-    if t < q + 177 {
+    if t.0 < q.0 + 177 {
         return 0;
     }
-    let g = t - q - 177;
+    let g = t.0 - q.0 - 177;
     let a = phantom_word(g / 64);
     let b = phantom_word(g / 64 + 1);
     across(a, b, g % 64)

@@ -15,13 +15,13 @@ use Rattle.rules.specs.Machine.{fateBy, tally}
 use Rattle.replies.specs.Sums.{wrapped}
 use Rattle.places.specs.Places.{test, always, idle, any3, anyIn, fateIn}
 use Rattle.plane.specs.Words.{bit}
-use Rattle.covering.specs.declared.Words.{Words}
-use Rattle.covering.specs.Marks.{four, Marked, AnyWord, lastOf, lastIn, lastOn}
-use Rattle.covering.proofs.Marking.{any-marked, last-marked}
-use Rattle.outcomes.specs.declared.Firsts.{Firsts}
+use Rattle.marking.specs.declared.Words.{Words}
+use Rattle.marking.specs.Marks.{four, Marked, AnyWord, lastOf, lastIn, lastOn}
+use Rattle.marking.proofs.Marking.{any-marked, last-marked}
+use Rattle.firsts.specs.declared.Firsts.{Firsts}
 use Rattle.outcomes.specs.declared.Outcome.{Outcome}
 use Rattle.outcomes.specs.declared.Outcome.the-variants.{Sidelobe as Aside, Removes, Garbled as Garbles, Lost as Loses, Opens as Opening}
-use Rattle.outcomes.specs.Fates.{AnyHidesPost}
+use Rattle.firsts.specs.Ticks.{AnyHidesPost}
 use Rattle.outcomes.specs.Outcomes.{outcomeBy, clearIn, OutcomePost, removedBy, isOpening, isOpens, phantomMore, countedBy}
 
 -- ---- the outcome, as the code finds it
@@ -49,18 +49,18 @@ any-last a true false false = go a
 any-last true false false false = refl
 any-last false false false false = refl
 
-module _ (f : Firsts) (on risk : Words) (i : ℕ) (e f2 : Pulse) (busy : Bool) where
-  pub outcome-side : (e .main || f2 .main) ≡ false → OutcomePost f on risk i e f2 busy Aside
+module _ (f : Firsts) (on risk : Words) (i : ℕ) (e : Pulse) (w : ℕ) (main busy : Bool) where
+  pub outcome-side : (e .main || main) ≡ false → OutcomePost f on risk i e w main busy Aside
   outcome-side h = record { last = λ k. absurd (omega arith); at = λ l ef early mo mr. sym (rw h) }
 
   -- x is the word of all phantoms
-  module _ (x : ℕ) (m : Bool) (h : (e .main || f2 .main) ≡ true) (ax : AnyWord risk x) (em : m ≡ bit x i) where
+  module _ (x : ℕ) (m : Bool) (h : (e .main || main) ≡ true) (ax : AnyWord risk x) (em : m ≡ bit x i) where
     risk-at : (l : List Place) → Marked risk i (isPhantom (e .tick .0)) l → m ≡ ltb (lastOn (isPhantom (e .tick .0)) l) 4
     risk-at l mr =
         em ∙ ax .at i ∙ any-last (bit (risk .a) i) (bit (risk .b) i) (bit (risk .c) i) (bit (risk .d) i)
         ∙ ap (λ (k : ℕ). ltb k 4) (last-marked risk i (isPhantom (e .tick .0)) l mr)
 
-    pub outcome-removes : (k : ℕ) → m ≡ true → k ≡ lastIn risk i → OutcomePost f on risk i e f2 busy (Removes k)
+    pub outcome-removes : (k : ℕ) → m ≡ true → k ≡ lastIn risk i → OutcomePost f on risk i e w main busy (Removes k)
     outcome-removes k t ek =
         record {
           last = λ j. ek;
@@ -74,15 +74,15 @@ module _ (f : Firsts) (on risk : Words) (i : ℕ) (e f2 : Pulse) (busy : Bool) w
     rest-stays false full h = omega arith
 
     -- z is the word of all that cover, hid says that an open reply covers F2
-    pub outcome-rest : (z : ℕ) (n hid clear full : Bool) → m ≡ false → AnyWord on z → n ≡ bit z i → AnyHidesPost f (f2 .tick .0) hid
-        → ((e .main && not n) || (f2 .main && not hid)) ≡ clear → busy ≡ full → OutcomePost f on risk i e f2 busy (cond clear (cond full Loses Opening) Garbles)
+    pub outcome-rest : (z : ℕ) (n hid clear full : Bool) → m ≡ false → AnyWord on z → n ≡ bit z i → AnyHidesPost f (w) hid
+        → ((e .main && not n) || (main && not hid)) ≡ clear → busy ≡ full → OutcomePost f on risk i e w main busy (cond clear (cond full Loses Opening) Garbles)
     outcome-rest z n hid clear full t az en ph ec eb =
         record {
           last = λ j. absurd (rest-stays clear full j);
           at = λ l ef early mo mr.
               let cn : n ≡ anyIn (covers (e .tick .0)) (four l) = en ∙ az .at i ∙ any-marked on i (covers (e .tick .0)) l mo in
-              let ch : hid ≡ anyIn (covers (f2 .tick .0)) (four l) = ph .at l early ef in
-              let cl : clear ≡ clearIn e f2 l = sym ec ∙ (λ j. (e .main && not (cn j)) || (f2 .main && not (ch j))) in
+              let ch : hid ≡ anyIn (covers (w)) (four l) = ph .at l early ef in
+              let cl : clear ≡ clearIn e w main l = sym ec ∙ (λ j. (e .main && not (cn j)) || (main && not (ch j))) in
               (λ j. cond (cl j) (cond (sym eb j) Loses Opening) Garbles) ∙ sym (rw (h, sym (risk-at l mr) ∙ t));
         }
 
@@ -144,6 +144,6 @@ removes-main true clear busy k c h = go (ltb k 4) refl
         absurd (omega (arith, z, h))
 
 -- the fate is that of the four places
-pub fate-in : (e f2 : Pulse) (l : List Place) → fateBy (e .main || f2 .main) (clearIn e f2 l) (test always (getD l 3 idle)) ≡ fateIn e f2 (four l)
+pub fate-in : (e f2 : Pulse) (l : List Place) → fateBy (e .main || f2 .main) (clearIn e (f2 .tick .0) (f2 .main) l) (test always (getD l 3 idle)) ≡ fateIn e f2 (four l)
 unfolding fateIn
 fate-in e f2 l = refl

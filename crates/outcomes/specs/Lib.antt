@@ -1,3 +1,2 @@
 -- What becomes of a bracket.
-pub mod Fates
 pub mod Outcomes

@@ -1,4 +1,4 @@
--- What becomes of a bracket with F1 at e and F2 at f2, phantoms removed one by one.
+-- What becomes of a bracket with F1 at e and F2 at w, with M if main, phantoms removed one by one.
 use Prim.Native.Nat.{ℕ, _<_}
 use mathlib.Core.Path.{_≡_}
 use mathlib.Core.Bool.{Bool, true, false, not, _&&_, _||_, cond}
@@ -13,21 +13,21 @@ use Rattle.rules.specs.Replies.{covers, isPhantom}
 use Rattle.rules.specs.Machine.{tally}
 use Rattle.replies.specs.Sums.{wrapped}
 use Rattle.places.specs.Places.{anyIn}
-use Rattle.covering.specs.declared.Words.{Words}
-use Rattle.covering.specs.Marks.{four, Marked, lastIn, lastOn}
-use Rattle.outcomes.specs.declared.Firsts.{Firsts}
+use Rattle.marking.specs.declared.Words.{Words}
+use Rattle.marking.specs.Marks.{four, Marked, lastIn, lastOn}
+use Rattle.firsts.specs.declared.Firsts.{Firsts}
 use Rattle.outcomes.specs.declared.Outcome.{Outcome}
 use Rattle.outcomes.specs.declared.Outcome.the-variants.{Sidelobe as Aside, Removes, Garbled as Garbles, Lost as Loses, Opens as Opening}
-use Rattle.outcomes.specs.Fates.{firstsOf, AllEarly}
+use Rattle.firsts.specs.Ticks.{firstsOf, AllEarly}
 
 -- By whether a framing pulse has M, by the place of the last phantom (4 for none), by whether a framing pulse has M and is uncovered, and by whether no place is idle.
 abbrev pub outcomeBy : Bool → ℕ → Bool → Bool → Outcome
 outcomeBy main k clear busy = cond main (cond (ltb k 4) (Removes k) (cond clear (cond busy Loses Opening) Garbles)) Aside
 
 -- a framing pulse has M and is uncovered by every open reply
-abbrev pub clearIn : Pulse → Pulse → List Place → Bool
-clearIn e f2 l =
-    (e .main && not (anyIn (covers (e .tick .0)) (four l))) || (f2 .main && not (anyIn (covers (f2 .tick .0)) (four l)))
+abbrev pub clearIn : Pulse → ℕ → Bool → List Place → Bool
+clearIn e w main l =
+    (e .main && not (anyIn (covers (e .tick .0)) (four l))) || (main && not (anyIn (covers w) (four l)))
 
 -- the place of the phantom that goes, or 4
 abbrev pub removedBy : Outcome → ℕ
@@ -37,11 +37,11 @@ removedBy Garbles = 4
 removedBy Loses = 4
 removedBy Opening = 4
 
-pub record OutcomePost (f : Firsts) (on risk : Words) (i : ℕ) (e f2 : Pulse) (busy : Bool) (y : Outcome) : Type 0 where
+pub record OutcomePost (f : Firsts) (on risk : Words) (i : ℕ) (e : Pulse) (w : ℕ) (main busy : Bool) (y : Outcome) : Type 0 where
   -- a place that is left is one whose word marks the tick
   pub last : removedBy y < 4 → removedBy y ≡ lastIn risk i
-  pub at : (l : List Place) → f ≡ firstsOf l → AllEarly (f2 .tick .0) l → Marked on i (covers (e .tick .0)) l → Marked risk i (isPhantom (e .tick .0)) l
-      → y ≡ outcomeBy (e .main || f2 .main) (lastOn (isPhantom (e .tick .0)) l) (clearIn e f2 l) busy
+  pub at : (l : List Place) → f ≡ firstsOf l → AllEarly w l → Marked on i (covers (e .tick .0)) l → Marked risk i (isPhantom (e .tick .0)) l
+      → y ≡ outcomeBy (e .main || main) (lastOn (isPhantom (e .tick .0)) l) (clearIn e w main l) busy
 
 abbrev pub isOpening : Outcome → Bool
 isOpening Aside = false

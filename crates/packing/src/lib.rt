@@ -1,10 +1,8 @@
-// From flag bytes, one a tick, to planes: a word of A, one of P, one of N, one of M. And tests of many flag bytes at once.
+// From flag bytes, one a tick, to planes: a word of A, one of P, one of N, one of M.
 ghost use Prim.Native.Nat.{_+_, _≤_};
 ghost use mathlib.Core.Path.{_≡_};
 ghost use lib.ListN.{length};
 ghost use Rattle.packing.specs.Packing.{Four, Eight, Nibbles, Turn, Low, High, Packed, PackedPart};
-
-pub mod flags;
 
 pub struct Planes {
     pub a: u64,

@@ -24,13 +24,13 @@ use Rattle.plane.specs.Words.{Holds, HoldsPart}
 use Rattle.plane.proofs.BitLaws.{zero-bit, bit-above}
 use Rattle.packing.specs.declared.Planes.{Planes}
 use Rattle.packing.specs.Packing.{Packed, PackedPart}
-use Rattle.packing.specs.Flags.{BareBlock}
+use Rattle.flags.specs.Flags.{FlaglessBlock}
 use Rattle.packing.proofs.FlagBits.{A-bit, P-bit, N-bit, M-bit}
 use Rattle.places.specs.Places.{machineOf}
 use Rattle.front.specs.Words.{frontOf}
 use Rattle.front.specs.Post.{Low, Reads, valueOf}
-use Rattle.front.proofs.Spans.{value-law}
-use Rattle.blocks.specs.declared.Progress.{Progress}
+use Rattle.front.proofs.ValueLaws.{value-law}
+use Rattle.processor.specs.declared.Progress.{Progress}
 use Rattle.blocks.specs.Steps.{stateAt, Bounded, Fed, Next, BlockPost}
 use Rattle.blocks.proofs.Working.{over-nil}
 use Rattle.blocks.specs.Feeding.{upTo, Enters, BlocksPost}

@@ -10,17 +10,18 @@ use Rattle.rules.specs.Lists.{All}
 use Rattle.rules.specs.Samples.{Trace, _⧺_, sweepLimit}
 use Rattle.rules.specs.Calls.{fresh, silence, takeRoom, closeRoom}
 use Rattle.places.specs.Places.{machineOf}
-use Rattle.blocks.specs.declared.Progress.{Progress}
+use Rattle.processor.specs.declared.Progress.{Progress}
 use Rattle.front.specs.Words.{frontOf, recentOf}
 use Rattle.front.specs.Post.{Reads}
 use Rattle.blocks.specs.Steps.{stateAt, Fed}
+use Rattle.processor.specs.Arrays.{machineAt}
 
 -- ---- a piece
 
 -- o is where a piece of flags and values begins, behind the trace T; the buffer b₀ has the room that document 01 asks for
 pub record Begins (T : Trace) (o : Progress) (recent : List ℕ) (base : ℕ) (flags values b₀ : List ℕ) : Type 0 where
   pub front : o .front ≡ frontOf (T .flags)
-  pub machine : o .machine ≡ machineOf (stateAt T (length (T .flags) - 178))
+  pub machine : machineAt o ≡ machineOf (stateAt T (length (T .flags) - 178))
   pub place : o .at ≡ 0
   pub kept : recent ≡ recentOf (T .values)
   pub ticks : length (T .flags) ≡ base
@@ -42,7 +43,7 @@ pub record FeedPost (o : Progress) (recent : List ℕ) (base : ℕ) (flags value
 -- o is where the trace T ends; the buffer b₀ has the room that document 01 asks of a close
 pub record Ends (T : Trace) (o : Progress) (recent : List ℕ) (base : ℕ) (b₀ : List ℕ) : Type 0 where
   pub front : o .front ≡ frontOf (T .flags)
-  pub machine : o .machine ≡ machineOf (stateAt T (length (T .flags) - 178))
+  pub machine : machineAt o ≡ machineOf (stateAt T (length (T .flags) - 178))
   pub place : o .at ≡ 0
   pub kept : recent ≡ recentOf (T .values)
   pub ticks : length (T .flags) ≡ base

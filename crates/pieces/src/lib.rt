@@ -1,8 +1,8 @@
 // A piece of a sweep on its way through the machine; and the ticks past the end of a sweep, which count as zero.
 ghost use Prim.Native.Nat.{_<_};
 ghost use Rattle.pieces.specs.Feeding.{FeedPost, DrainPost};
-use blocks::Progress;
 use machine::work;
+use processor::Progress;
 
 // The progress after a piece of a sweep. One that would pass the limit of a sweep is not fed.
 pub fn feed(

@@ -34,7 +34,7 @@ pub fn any4(a: bool, b: bool, c: bool, d: bool) -> bool
     a | (b | (c | d))
 }
 
-pub fn no_places() -> Places
+fn no_places() -> Places
     ensures { λ x. ⌜ x ≡ noPlaces ⌝ }
 {
     Places {
@@ -47,7 +47,7 @@ pub fn no_places() -> Places
 
 // ---- brackets
 
-pub fn pick_pulse(c: bool, a: Pulse, b: Pulse) -> Pulse
+fn pick_pulse(c: bool, a: Pulse, b: Pulse) -> Pulse
     ensures { λ r. ⌜ r ≡ cond c a b ⌝ }
 {
     if c {

@@ -1,15 +1,13 @@
 -- What a line says, case by case.
-use Prim.Native.Nat.{ℕ, suc, _+_, _-_, _*_, _/_, _%_, _≤_, _<_}
+use Prim.Native.Nat.{ℕ, _+_, _-_, _*_, _/_, _%_, _≤_, _<_}
 use native.Mathlib.Omega.{arith}
 use mathlib.Core.Path.{_≡_, refl, sym, ap, ap₂, _∙_}
 use mathlib.Core.Bool.{Bool, true, false, cond, _&&_}
-use mathlib.Core.List.{List, [], _∷_}
+use mathlib.Core.List.{List, _∷_}
 use lib.Dec.{leb, eqb}
 use lib.ListN.{length, getD, take}
 use borrow.Author.Tests.{leb-true, eqb-true, lt-leb, le-leb, eq-eqb, ne-eqb}
-use Rattle.rules.specs.Samples.{Trace}
 use Rattle.rules.proofs.Truth.{and-left, and-right}
-use Rattle.reading.specs.declared.Line.{Line}
 use Rattle.reading.specs.declared.Line.the-variants.{Frame as Framed, Refused}
 use Rattle.reading.specs.declared.Frame.the-variants.{Open, Samples, Close}
 use Rattle.reading.specs.Frames.{Reading, opening, samples, closing, refused, digits, ended, wellFormed, bytes, flagsIn, valuesIn, openingOf, samplesOf, closingOf, frame, reading}

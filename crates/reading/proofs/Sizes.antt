@@ -1,11 +1,11 @@
 -- The samples of a line: at most 64, a flag and a value for each, and values are bytes.
-use Prim.Native.Nat.{ℕ, zero, suc, _+_, _-_, _*_, _%_, _≤_, _<_}
+use Prim.Native.Nat.{ℕ, suc, _+_, _-_, _*_, _%_, _≤_, _<_}
 use native.Mathlib.Omega.{arith}
-use mathlib.Core.Path.{_≡_, refl, sym, ap, _∙_, subst}
+use mathlib.Core.Path.{_≡_, refl, ap}
 use mathlib.Core.Bool.{Bool, true, false, cond, _&&_}
 use mathlib.Core.List.{List, [], _∷_}
-use lib.Dec.{leb, ltb, eqb}
-use lib.ListN.{length, getD, take}
+use lib.Dec.{leb, eqb}
+use lib.ListN.{length, getD}
 use lib.Seq.{length-take-le}
 use borrow.Author.Tests.{ltb-true, ne-eqb, lt-leb}
 use Rattle.rules.specs.Lists.{All}
@@ -13,7 +13,7 @@ use Rattle.rules.specs.Samples.{Trace}
 use Rattle.rules.proofs.Truth.{and-left, and-right}
 use Rattle.reading.specs.Frames.{Reading, opening, samples, closing, refused, bytes, digits, ended, wellFormed, flagsIn, valuesIn, openingOf, samplesOf, closingOf, frame, reading}
 use Rattle.characters.specs.Characters.{digit, isDigit, areDigits}
-use Rattle.reading.proofs.Reading.{Formed, formed}
+use Rattle.reading.proofs.Reading.{formed}
 
 abbrev Byte : ℕ → Type 0
 Byte x = x ≤ 255

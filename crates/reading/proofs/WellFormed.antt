@@ -1,16 +1,12 @@
 -- Whether a line is well formed, test by test.
-use Prim.Native.Nat.{ℕ, _+_, _-_, _%_, _≤_, _<_}
-use native.Mathlib.Omega.{arith}
-use mathlib.Core.Path.{_≡_, refl, sym, ap, _∙_}
-use mathlib.Core.Bool.{Bool, true, false, _&&_}
+use Prim.Native.Nat.{ℕ, _-_, _%_, _≤_, _<_}
+use mathlib.Core.Path.{_≡_}
+use mathlib.Core.Bool.{Bool, false}
 use mathlib.Core.List.{List}
-use lib.Dec.{leb, eqb}
 use lib.ListN.{length, getD, take}
-use borrow.Author.Tests.{leb-true, eqb-true, lt-leb, le-leb, eq-eqb, ne-eqb}
-use Rattle.rules.proofs.Truth.{and-left, and-right}
-use Rattle.reading.specs.Frames.{digits, ended, wellFormed}
+use borrow.Author.Tests.{lt-leb, le-leb, eq-eqb, ne-eqb}
+use Rattle.reading.specs.Frames.{wellFormed}
 use Rattle.characters.specs.Characters.{areDigits}
-use Rattle.reading.specs.Post.{AllDigits}
 
 module _ (l : List ℕ) where
   pub well-short : length l < 2 → false ≡ wellFormed l

@@ -1,67 +1,28 @@
 -- Bytes written over a buffer one after the other make up the record.
-use Prim.Native.Nat.{ℕ, _+_, _-_, _*_, _/_, _%_, _≤_}
+use Prim.Native.Nat.{ℕ, _+_, _/_, _%_, _≤_}
 use native.Mathlib.Omega.{arith}
-use mathlib.Core.Path.{_≡_, refl, sym, ap, ap₂, _∙_, subst}
-use mathlib.Core.Bool.{Bool, true, false, not, cond, true≢false}
+use mathlib.Core.Path.{_≡_, refl, ap, ap₂, _∙_}
 use mathlib.Core.List.{List, [], _∷_, _++_}
-use lib.Dec.{T}
 use lib.ListN.{length}
-use lib.Ieee.{Float, nan, inf, fin, binary64, eq, isNan, toBits, up, down, level as level′}
-use borrow.Author.Tests.{eq-eqb}
-use Rattle.rules.specs.declared.Estimate.{Estimate}
-use Rattle.rules.specs.declared.Marks.{Marks}
+use lib.Ieee.{binary64, toBits}
 use Rattle.rules.specs.declared.Reply.{Reply}
 use Rattle.rules.specs.Replies.{level}
-use Rattle.rules.specs.Records.{bytes, isAverage, flagsOf, confidence, recordOf}
+use Rattle.rules.specs.Records.{bytes, rangeOf, flagsOf, confidence, recordOf}
 use Rattle.rules.specs.Buffers.{over-at}
 use Rattle.rules.proofs.Buffers.{over-at-next}
 
--- ---- a float that equals itself is no NaN, and the other is
-
-pub equal-left : (x y : Float) → eq x y ≡ true → T (not (isNan x))
-unfolding eq isNan
-equal-left nan y h = subst T (sym h) tt
-equal-left (inf s) y h = tt
-equal-left (fin s m e) y h = tt
-
-never : true ≡ false → ⊥
-never e = true≢false e
-
-level-self : (s : Bool) (a : ℕ) → level′ s a s a ≡ true
-level-self true a = rw (eq-eqb a a refl)
-level-self false a = rw (eq-eqb a a refl)
-
-pub nan-bits : (x : Float) → eq x x ≡ false → 9221120237041090560 ≡ toBits binary64 x
-unfolding eq toBits
-nan-bits nan h = refl
-nan-bits (inf true) h = absurd (never h)
-nan-bits (inf false) h = absurd (never h)
-nan-bits (fin s m e) h = absurd (never (sym (level-self s (m * up e * down e)) ∙ h))
-
--- ---- flags
-
-cond-mod : (b : Bool) (x y n : ℕ) → x % n ≡ x → y % n ≡ y → cond b x y % n ≡ cond b x y
-cond-mod true x y n p q = p
-cond-mod false x y n p q = q
-
-pub flags-are : (m : Marks) (e : Estimate) (b : Bool) (x y z w : ℕ) → b ≡ isAverage e → x ≡ cond b 1 0 → y ≡ cond (m .second) 2 0 → z ≡ cond (m .main) 0 4 → w ≡ cond (m .military) 8 0
-    → x % 2 + (y % 4 + (z % 8 + w % 16)) ≡ flagsOf m e
-flags-are m e b x y z w eb ex ey ez ew =
-    rw (ex, ey, ez, ew, eb)
-    (rw (cond-mod (isAverage e) 1 0 2 refl refl, cond-mod (m .second) 2 0 4 refl refl, cond-mod (m .main) 0 4 8 refl refl, cond-mod (m .military) 8 0 16 refl refl))
-
--- a range of two bytes
-pub bytes-range : (t : ℕ) → bytes 2 (2 * (t % 32768)) ≡ bytes 2 (2 * t)
+-- two bytes of a number
+two-bytes : (x : ℕ) → bytes 2 (x % 65536) ≡ bytes 2 x
 unfolding bytes
-bytes-range t =
-    let h : 2 * (t % 32768) / 256 % 256 ≡ 2 * t / 256 % 256 = omega arith in
-    let k : 2 * (t % 32768) / 1 % 256 ≡ 2 * t / 1 % 256 = omega arith in
-    ap₂ (λ (x y : ℕ). x ∷ y ∷ []) h k
+two-bytes x =
+    let h : x % 65536 / 256 % 256 ≡ x / 256 % 256 = omega arith in
+    let k : x % 65536 / 1 % 256 ≡ x / 1 % 256 = omega arith in
+    ap₂ (λ (y z : ℕ). y ∷ z ∷ []) h k
 
 -- The seven fields of a record, written one after the other.
 module _ (r : Reply) (range code sure flags sum bits : ℕ) where
   pub record Fields : Type 0 where
-    pub range-is : range ≡ 2 * (r .f1 .0 % 32768)
+    pub range-is : range ≡ rangeOf (r .f1) .0 % 65536
     pub code-is : code ≡ r .word .code
     pub sure-is : sure ≡ confidence (r .word .unsure)
     pub flags-is : flags ≡ flagsOf (r .marks) (r .reference .estimate)
@@ -73,7 +34,7 @@ module _ (r : Reply) (range code sure flags sum bits : ℕ) where
   named h =
       rw (h .code-is, h .sure-is, h .flags-is, h .sum-is, h .bits-is)
       (ap (λ (l : List ℕ). l ++ bytes 2 (r .word .code) ++ bytes 2 (confidence (r .word .unsure)) ++ bytes 1 (flagsOf (r .marks) (r .reference .estimate)) ++ bytes 1 (r .reference .n) ++ bytes 2 (r .reference .s) ++ bytes 8 (toBits binary64 (level (r .reference .estimate))))
-      (ap (bytes 2) (h .range-is) ∙ bytes-range (r .f1 .0)))
+      (ap (bytes 2) (h .range-is) ∙ two-bytes (rangeOf (r .f1) .0)))
 
   pub written : Fields → (at : ℕ) (b : List ℕ) → at + 18 ≤ length b → (b₁ b₂ b₃ b₄ b₅ b₆ b₇ : List ℕ)
       → b₁ ≡ over-at (bytes 2 range) at b → b₂ ≡ over-at (bytes 2 code) (at + 2) b₁ → b₃ ≡ over-at (bytes 2 sure) (at + 4) b₂

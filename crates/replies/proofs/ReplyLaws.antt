@@ -12,7 +12,7 @@ use Rattle.rules.specs.declared.Word.{Word}
 use Rattle.rules.specs.declared.Reference.{Reference}
 use Rattle.rules.specs.declared.Estimate.the-variants.{Average}
 use Rattle.rules.specs.Replies.{Verdict, f1, ended, military, number, level, averaged, average, verdict, bitOf, settle}
-use Rattle.replies.specs.Sums.{wrapped}
+use Rattle.replies.specs.Sums.{wrapped, wordPlus}
 
 -- ---- tests by ticks
 
@@ -82,31 +82,19 @@ no-choice false = refl
 add-none : (a x : ℕ) → a < 65536 → x ≡ 0 → wrapped a x ≡ a
 add-none a x h e = omega arith
 
-module _ (t : Bool) (k : ℕ) (v : Verdict) (b c n : ℕ) (w : Word) (x y z : ℕ) (ls : w .settled < 65536) (lc : w .code < 65536) (lu : w .unsure < 65536) where
-  pub settle-law : x ≡ wrapped (w .settled) b → y ≡ wrapped (w .code) c → z ≡ wrapped (w .unsure) n → b ≡ cond t (2 ^ bitOf k) 0 → c ≡ cond (v .code) b 0
-      → n ≡ cond (v .confidence) 0 b → _≡_ {A = Word} (record { settled = x; code = y; unsure = z }) (cond t (settle wrapped k v w) w)
-  settle-law ex ey ez eb ec en =
-      (λ i. record {
-        settled = (ex ∙ ap (wrapped (w .settled)) eb) i;
-        code = (ey ∙ ap (wrapped (w .code)) (ec ∙ ap (λ (p : ℕ). cond (v .code) p 0) eb)) i;
-        unsure = (ez ∙ ap (wrapped (w .unsure)) (en ∙ ap (λ (p : ℕ). cond (v .confidence) 0 p) eb)) i;
-      })
-      ∙ go t
-    where
-      go : (s : Bool)
-          → _≡_ {A = Word}
-          (record {
-            settled = wrapped (w .settled) (cond s (2 ^ bitOf k) 0);
-            code = wrapped (w .code) (cond (v .code) (cond s (2 ^ bitOf k) 0) 0);
-            unsure = wrapped (w .unsure) (cond (v .confidence) 0 (cond s (2 ^ bitOf k) 0));
-          })
-          (cond s (settle wrapped k v w) w)
-      go true = refl
-      go false = λ i. record {
-        settled = add-none (w .settled) 0 ls refl i;
-        code = add-none (w .code) (cond (v .code) 0 0) lc (no-choice (v .code)) i;
-        unsure = add-none (w .unsure) (cond (v .confidence) 0 0) lu (no-choice (v .confidence)) i;
-      }
+-- a word with position k settled, or as it is, by the bits that are added
+pub settle-law : (t : Bool) (k : ℕ) (v : Verdict) (b c n : ℕ) (w : Word) → w .settled < 65536 → w .code < 65536 → w .unsure < 65536 → b ≡ cond t (2 ^ bitOf k) 0 → c ≡ cond (v .code) b 0
+    → n ≡ cond (v .confidence) 0 b → wordPlus w b c n ≡ cond t (settle wrapped k v w) w
+settle-law t k v b c n w ls lc lu eb ec en =
+    (λ i. wordPlus w (eb i) ((ec ∙ ap (λ (p : ℕ). cond (v .code) p 0) eb) i) ((en ∙ ap (λ (p : ℕ). cond (v .confidence) 0 p) eb) i)) ∙ go t
+  where
+    go : (s : Bool) → wordPlus w (cond s (2 ^ bitOf k) 0) (cond (v .code) (cond s (2 ^ bitOf k) 0) 0) (cond (v .confidence) 0 (cond s (2 ^ bitOf k) 0)) ≡ cond s (settle wrapped k v w) w
+    go true = refl
+    go false = λ i. record {
+      settled = add-none (w .settled) 0 ls refl i;
+      code = add-none (w .code) (cond (v .code) 0 0) lc (no-choice (v .code)) i;
+      unsure = add-none (w .unsure) (cond (v .confidence) 0 0) lu (no-choice (v .confidence)) i;
+    }
 
 -- ---- a number by a digit
 

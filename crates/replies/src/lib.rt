@@ -1,12 +1,12 @@
 // One reply: tests by ticks, what it agrees with, and what an edge settles. Numbers in, numbers out.
 ghost use mathlib.Core.Path.{_≡_};
-ghost use Prim.Native.Nat.{ℕ, _^_, _<_};
+ghost use Prim.Native.Nat.{_<_};
 ghost use lib.Dec.{eqb};
-ghost use mathlib.Core.Bool.{Bool, cond};
-ghost use Rattle.replies.specs.Sums.{wrapped};
+ghost use mathlib.Core.Bool.{cond};
+ghost use Rattle.replies.specs.Sums.{wrapped, wordPlus};
 ghost use Rattle.rules.specs.declared.Reply.{Reply};
 ghost use Rattle.rules.specs.Settings.{standard};
-ghost use Rattle.rules.specs.Replies.{Verdict, ended as ended′, military as military′, level, near as near′, averaged as averaged′, average as average′, verdict, bitOf, settle};
+ghost use Rattle.rules.specs.Replies.{ended as ended′, military as military′, level, near as near′, averaged as averaged′, average as average′, verdict};
 use rules::Estimate;
 use rules::Reference;
 use rules::Reply;
@@ -58,7 +58,7 @@ pub fn wide(v: u8) -> u16
 }
 
 // The estimate x with one more value.
-pub fn averaged(x: f64, v: u8) -> f64
+fn averaged(x: f64, v: u8) -> f64
     ensures { λ r. ⌜ r ≡ averaged′ x v ⌝ }
 {
     (x + v as f64) * 0.5
@@ -113,7 +113,7 @@ pub fn choose(h: u16, a: u16, b: u16) -> u16
 
 // The word with a position settled whose bit is b, with c for the code and n for unsure; with 0 for all three the word as it is.
 pub fn settle_bit(w: Word, b: u16, c: u16, n: u16) -> Word
-    ensures { λ r. ⌜ ((t : Bool) (k : ℕ) (v : Verdict) → b ≡ cond t (2 ^ bitOf k) 0 → c ≡ cond (v .code) b 0 → n ≡ cond (v .confidence) 0 b → r ≡ cond t (settle wrapped k v w) w) ⌝ }
+    ensures { λ r. ⌜ r ≡ wordPlus w b c n ⌝ }
 {
     Word {
         settled: plus(w.settled, b),

@@ -14,7 +14,7 @@ use Rattle.rules.specs.Settings.{standard, Allowed}
 use Rattle.rules.specs.Samples.{Trace, _⧺_, bad, pieceLimit, sweepLimit}
 use Rattle.rules.specs.Records.{records}
 use Rattle.rules.proofs.Joining.{records-length}
-use Rattle.rules.specs.Calls.{Answer as Verdict, accepted, refused, takeAnswer, takeRoom}
+use Rattle.rules.specs.Calls.{Answer, accepted, refused, takeAnswer, takeRoom}
 use Rattle.rules.specs.Buffers.{over}
 
 pub standard-allowed : Allowed standard
@@ -23,11 +23,11 @@ standard-allowed =
 
 -- ---- numbers that did not hold
 
-record Passed (b : Bool) (v : Verdict) : Type 0 where
+record Passed (b : Bool) (v : Answer) : Type 0 where
   not-held : b ≡ false
   rest : v ≡ accepted
 
-passed : (b : Bool) (k : ℕ) (v : Verdict) → cond b (refused k) v ≡ accepted → Passed b v
+passed : (b : Bool) (k : ℕ) (v : Answer) → cond b (refused k) v ≡ accepted → Passed b v
 passed true k v e = absurd (let z : _≡_ {A = ℕ} 0 1 = cc in omega arith)
 passed false k v e = record { not-held = refl; rest = e }
 

@@ -6,13 +6,13 @@ use mathlib.Core.Path.{_≡_, refl, sym, ap, _∙_}
 use mathlib.Core.Bool.{Bool, true, false, not, _||_, cond, or-true}
 use lib.Dec.{leb, eqb}
 use lib.Pow.{pow-mono}
-use borrow.Author.Tests.{leb-true, leb-false, eqb-true}
+use borrow.Author.Tests.{leb-true, leb-false, le-leb, eqb-true, eqb-false, ne-eqb}
 use Rattle.rules.specs.Samples.{bit as digit}
 use Rattle.rules.specs.Replies.{isPosition, isInside, bitOf, takes}
 use Rattle.rules.proofs.Truth.{impossible}
 use Rattle.plane.specs.Words.{bit}
 use Rattle.plane.proofs.BitLaws.{bit-not, bit-mod, bit-above}
-use Rattle.settling.specs.Hearing.{placeOf, freshIn}
+use Rattle.settling.specs.Hearing.{placeOf, positionOfBit, freshIn}
 
 -- ---- one bit of a word
 
@@ -57,6 +57,56 @@ module _ (s j : ℕ) where
   fresh-some : j < 15 → bit (32767 - s % 32768) j ≡ not (digit j s)
   fresh-some h = bit-not (s % 32768) 15 j (omega arith) h ∙ ap not (bit-mod s 15 j h ∙ bit-digit s j)
 
+-- ---- positions and their bits
+
+own-place : (k : ℕ) → 1 ≤ k → k ≤ 14 → placeOf k ≡ k - 1
+own-place k y z =
+    let m : k % 32 ≡ k = omega arith in
+    let d : k % 32 / 16 ≡ 0 = omega (arith, m) in
+    let n : k % 32 + 15 - 2 * (k % 32 / 16) ≡ k - 1 + 16 = omega (arith, m, d) in
+    let o : (k - 1 + 16) % 16 ≡ k - 1 = omega arith in
+    ap (λ (x : ℕ). x % 16) n ∙ o
+
+position-some : (p : ℕ) → p < 14 → positionOfBit p ≡ p + 1
+position-some p l = rw (ne-eqb p 15 (λ e. omega arith), ne-eqb p 14 (λ e. omega arith))
+
+-- the position of a position's bit
+pub place-position : (k : ℕ) → isPosition k ≡ true → positionOfBit (placeOf k) ≡ k
+place-position k h = go (leb k 14) refl (eqb k 17) refl (leb 1 k) refl
+  where
+    go : (a : Bool) → leb k 14 ≡ a → (b : Bool) → eqb k 17 ≡ b → (c : Bool) → leb 1 k ≡ c → positionOfBit (placeOf k) ≡ k
+    go a ea true eb c ec =
+        let z : k ≡ 17 = eqb-true k 17 eb in
+        ap (λ (x : ℕ). positionOfBit (placeOf x)) z ∙ sym z
+    go true ea false eb true ec =
+        let y = leb-true 1 k ec in
+        let e = own-place k y (leb-true k 14 ea) in
+        ap positionOfBit e ∙ position-some (k - 1) (omega (arith, leb-true k 14 ea)) ∙ omega arith
+    go true ea false eb false ec =
+        let z : k ≡ 0 = omega (arith, leb-false 1 k ec) in
+        ap (λ (x : ℕ). positionOfBit (placeOf x)) z ∙ sym z
+    go false ea false eb c ec = absurd (impossible (sym h ∙ rw (ea, eb)))
+
+-- bit p is that of a position
+pub record Bit·of (p : ℕ) : Type 0 where
+  pub is : isPosition (positionOfBit p) ≡ true
+  pub place : placeOf (positionOfBit p) ≡ p
+
+pub position-place : (p : ℕ) → p < 16 → Bit·of p
+position-place p l = go (eqb p 15) refl (eqb p 14) refl
+  where
+    at : (n : ℕ) → p ≡ n → Bit·of n → Bit·of p
+    at n e h = rw e h
+
+    go : (a : Bool) → eqb p 15 ≡ a → (b : Bool) → eqb p 14 ≡ b → Bit·of p
+    go true ea b eb = at 15 (eqb-true p 15 ea) (record { is = refl; place = refl })
+    go false ea true eb = at 14 (eqb-true p 14 eb) (record { is = refl; place = refl })
+    go false ea false eb =
+        let s : p < 14 = omega (arith, eqb-false p 15 ea, eqb-false p 14 eb) in
+        let e = position-some p s in
+        let n : leb (p + 1) 14 ≡ true = le-leb (p + 1) 14 (omega arith) in
+        record { is = ap isPosition e ∙ rw n; place = ap placeOf e ∙ own-place (p + 1) (omega arith) (omega arith) ∙ omega arith }
+
 -- ---- the position's own bit
 
 module _ (s k : ℕ) where
@@ -85,11 +135,7 @@ module _ (s k : ℕ) where
       go true ea false eb true ec =
           let y = leb-true k 14 ea in
           let z = leb-true 1 k ec in
-          let m : k % 32 ≡ k = omega arith in
-          let d : k % 32 / 16 ≡ 0 = omega (arith, m) in
-          let n : k % 32 + 15 - 2 * (k % 32 / 16) ≡ k - 1 + 16 = omega (arith, m, d) in
-          let o : (k - 1 + 16) % 16 ≡ k - 1 = omega arith in
-          let f : placeOf k ≡ k - 1 = ap (λ (x : ℕ). x % 16) n ∙ o in
+          let f = own-place k z y in
           own-some (rw (eb, ec, ea)) (f ∙ sym (rw eb)) (omega (arith, f))
       go true ea false eb false ec =
           let z : k ≡ 0 = omega (arith, leb-false 1 k ec) in

@@ -14,15 +14,18 @@ use Rattle.rules.specs.declared.Word.{Word}
 use Rattle.rules.specs.declared.Reference.{Reference}
 use Rattle.rules.specs.declared.Reply.{Reply}
 use Rattle.rules.specs.declared.Pulse.{Pulse}
+use Rattle.rules.specs.declared.Slot.{Slot}
 use Rattle.rules.specs.declared.Slot.the-variants.{Idle, Open}
 use Rattle.rules.specs.declared.Place.{Place}
 use Rattle.places.specs.Places.{test, testSlot, positionSlot, positionIn, hearSlotAt, hearAt}
 use Rattle.rules.specs.Replies.{Verdict, f1, position, isPosition, covers, level, verdict, takes, settle, average, heardAt, bitOf}
 use Rattle.rules.proofs.Truth.{impossible, and-left}
-use Rattle.replies.specs.Sums.{wrapped}
+use Rattle.replies.specs.Sums.{wrapped, wordPlus}
+use Rattle.replies.proofs.ReplyLaws.{settle-law}
 use Rattle.masks.specs.Masks.{coversFrom}
-use Rattle.settling.specs.Hearing.{placeOf, freshIn, kindOf, estimateOf, hearBy}
-use Rattle.settling.proofs.FreshBits.{fresh-digit, fresh-bit}
+use Rattle.settling.specs.Hearing.{positionNumber, placeOf, positionOfBit, goesTo, freshIn, kindOf, estimateOf, hearBy}
+use Rattle.settling.specs.Deals.{goesToSlot, heardBy, hearing}
+use Rattle.settling.proofs.FreshBits.{place-position, position-place, fresh-digit, fresh-bit}
 
 -- ---- the position that covers a tick
 
@@ -58,12 +61,23 @@ near-by q u h = (
 )
 
 -- with d for u + 1 - q in 64 bits
-pub position-law : (q u d : ℕ) → q < 2 ^ 32 → u < 2 ^ 32 → d < 2 ^ 64 → (d + q) % 2 ^ 64 ≡ u + 1 → coversFrom q u ≡ true → d % 256 / 12 ≡ position q u
-position-law q u d lq lu ld e h =
+pub number-law : (q u d : ℕ) → q < 2 ^ 32 → u < 2 ^ 32 → d < 2 ^ 64 → (d + q) % 2 ^ 64 ≡ u + 1 → d % 256 / 12 ≡ positionNumber q u
+number-law q u d lq lu ld e =
+    let z : d % 256 ≡ (u + 1 + 2 ^ 32 - q) % 256 = omega (arith, e) in
+    ap (λ (x : ℕ). x / 12) z
+
+low-bits : (x y : ℕ) → x / 12 ≤ 17 → y ≡ x + 2 ^ 32 → y % 256 ≡ x
+low-bits x y h e =
+    let l : x < 256 = omega arith in
+    omega (arith, l, e)
+
+-- an edge goes to the position that covers it
+covers-goes : (q u : ℕ) → coversFrom q u ≡ true → goesTo q u ≡ position q u
+unfolding goesTo
+covers-goes q u h =
     let n = near-by q u h in
-    let y : d ≡ u + 1 - q = omega (arith, n .0) in
-    let z : d % 256 / 12 ≡ (u + 1 - q) / 12 = omega (arith, n .1, y) in
-    z ∙ sym (covers-position q u h)
+    let z : positionNumber q u ≡ (u + 1 - q) / 12 = ap (λ (x : ℕ). x / 12) (low-bits (u + 1 - q) (u + 1 + 2 ^ 32 - q) (n .1) (omega (arith, n .0))) in
+    ap (λ (k : ℕ). positionOfBit (placeOf k)) (z ∙ sym (covers-position q u h)) ∙ place-position (position q u) (sym (covers-from q u) ∙ h)
 
 -- ---- digits
 
@@ -109,29 +123,36 @@ unfolding average
 both true k e x r = refl
 both false k e x r = refl
 
+-- the numbers of a word are of 16 bits
+pub record Fitting (w : Word) : Type 0 where
+  pub settled : w .settled < 65536
+  pub code : w .code < 65536
+  pub unsure : w .unsure < 65536
+
 covers-both : (r : Reply) (u : ℕ) → coversFrom (f1 r) u ≡ covers u r
 unfolding coversFrom covers
 covers-both r u = refl
 
--- with k for the position, g for the digit that says whether the edge settles it, a for the word after and b for the reference after
-pub heard-law : (r : Reply) (e : Pulse) (own other : Bool) (k : ℕ) → (coversFrom (f1 r) (e .tick .0) ≡ true → k ≡ position (f1 r) (e .tick .0)) → (p : ℕ) → p ≡ placeOf k → (g : ℕ)
+-- with k for the position, g for the digit that says whether the edge settles it, b for the reference after
+pub heard-law : (r : Reply) (e : Pulse) (own other : Bool) → Fitting (r .word) → (k : ℕ) → k ≡ positionNumber (f1 r) (e .tick .0) → (p : ℕ) → p ≡ placeOf k → (g : ℕ)
     → g ≡ freshIn (r .word .settled) p → (code sure : Bool) → code ≡ verdict (e .main) own other .code → sure ≡ verdict (e .main) own other .confidence → (c n h : ℕ)
-    → c ≡ cond code ((g * 2 ^ p) % 2 ^ 16) 0 → n ≡ cond sure 0 ((g * 2 ^ p) % 2 ^ 16) → h ≡ cond sure g 0 → (a : Word)
-    → ((t : Bool) (q : ℕ) (y : Verdict) → (g * 2 ^ p) % 2 ^ 16 ≡ cond t (2 ^ bitOf q) 0 → c ≡ cond (y .code) ((g * 2 ^ p) % 2 ^ 16) 0 → n ≡ cond (y .confidence) 0 ((g * 2 ^ p) % 2 ^ 16)
-    → a ≡ cond t (settle wrapped q y (r .word)) (r .word)) → (b : Reference) → b ≡ cond (eqb h 1) (average wrapped (r .reference) (e .value)) (r .reference)
-    → covers (e .tick .0) r ≡ true → record { f1 = r .f1; marks = r .marks; word = a; reference = b } ≡ hearBy (position (f1 r) (e .tick .0)) e (verdict (e .main) own other) r
-heard-law r e own other k ek p ep g eg code sure ec es c n h ed en eh a ea b eb t =
-    let z : coversFrom (f1 r) (e .tick .0) ≡ true = covers-both r (e .tick .0) ∙ t in
-    let K = position (f1 r) (e .tick .0) in
+    → c ≡ cond code ((g * 2 ^ p) % 2 ^ 16) 0 → n ≡ cond sure 0 ((g * 2 ^ p) % 2 ^ 16) → h ≡ cond sure g 0 → (a : Word) → a ≡ wordPlus (r .word) ((g * 2 ^ p) % 2 ^ 16) c n
+    → (b : Reference) → b ≡ cond (eqb h 1) (average wrapped (r .reference) (e .value)) (r .reference)
+    → record { f1 = r .f1; marks = r .marks; word = a; reference = b } ≡ hearBy (goesTo (f1 r) (e .tick .0)) e (verdict (e .main) own other) r
+unfolding goesTo
+heard-law r e own other fit k ek p ep g eg code sure ec es c n h ed en eh a ea b eb =
+    let P = placeOf (positionNumber (f1 r) (e .tick .0)) in
+    let K = positionOfBit P in
     let T = takes K (r .word .settled) in
     let W = verdict (e .main) own other in
-    let on : isPosition K ≡ true = sym (covers-from (f1 r) (e .tick .0)) ∙ z in
-    let at : p ≡ placeOf K = ep ∙ ap placeOf (ek z) in
+    let back = position-place P (omega arith) in
+    let at : p ≡ placeOf K = ep ∙ ap placeOf ek ∙ sym (back .place) in
     let there : g ≡ freshIn (r .word .settled) (placeOf K) = eg ∙ ap (freshIn (r .word .settled)) at in
-    let digit : g ≡ cond T 1 0 = there ∙ fresh-digit (r .word .settled) K on in
-    let bit : (g * 2 ^ p) % 2 ^ 16 ≡ cond T (2 ^ bitOf K) 0 = (λ i. (there i * 2 ^ at i) % 2 ^ 16) ∙ fresh-bit (r .word .settled) K on in
+    let digit : g ≡ cond T 1 0 = there ∙ fresh-digit (r .word .settled) K (back .is) in
+    let bit : (g * 2 ^ p) % 2 ^ 16 ≡ cond T (2 ^ bitOf K) 0 = (λ i. (there i * 2 ^ at i) % 2 ^ 16) ∙ fresh-bit (r .word .settled) K (back .is) in
     let word : a ≡ cond T (settle wrapped K W (r .word)) (r .word) =
-    ea T K (record { code = code; confidence = sure }) bit ed en ∙ (λ i. cond T (settle wrapped K (record { code = ec i; confidence = es i }) (r .word)) (r .word)) in
+    ea ∙ settle-law T K (record { code = code; confidence = sure }) _ c n (r .word) (fit .settled) (fit .code) (fit .unsure) bit ed en
+    ∙ (λ i. cond T (settle wrapped K (record { code = ec i; confidence = es i }) (r .word)) (r .word)) in
     let reference : b ≡ cond T (cond (W .confidence) (average wrapped (r .reference) (e .value)) (r .reference)) (r .reference) =
     eb ∙ ap (λ (y : Bool). cond y (average wrapped (r .reference) (e .value)) (r .reference)) (sure-digit T sure g h digit eh)
     ∙ in-turn T sure (average wrapped (r .reference) (e .value)) (r .reference)
@@ -140,11 +161,20 @@ heard-law r e own other k ek p ep g eg code sure ec es c n h ed en eh a ea b eb 
 
 -- ---- the place
 
-pub idle-law : (k : ℕ) (e : Pulse) (x : Verdict) (p : Place) → p .slot ≡ Idle → record { slot = Idle } ≡ hearAt wrapped k e x p
-idle-law k e x p h = λ i. record { slot = hearSlotAt wrapped k e x (sym h i) }
+abbrev slotHeard : Pulse → Bool → Bool → Slot → Slot
+slotHeard e own other s = hearSlotAt wrapped (goesToSlot (e .tick .0) s) e (verdict (e .main) own other) s
 
-pub open-law : (u : ℕ) (e : Pulse) (x : Verdict) (p : Place) (r : Reply) → p .slot ≡ Open r → (y : Reply) → (covers u r ≡ true → y ≡ hearBy (position (f1 r) u) e x r)
-    → test (covers u) p ≡ true → record { slot = Open y } ≡ hearAt wrapped (positionIn u p) e x p
-open-law u e x p r h y ey t =
-    let z : covers u r ≡ true = sym (ap (testSlot (covers u)) h) ∙ t in
-    (λ i. record { slot = Open (ey z i) }) ∙ (λ i. record { slot = hearSlotAt wrapped (positionSlot u (sym h i)) e x (sym h i) })
+pub idle-law : (e : Pulse) (own other : Bool) (p : Place) → p .slot ≡ Idle → record { slot = Idle } ≡ heardBy e own other p
+idle-law e own other p h = λ i. record { slot = slotHeard e own other (sym h i) }
+
+pub open-law : (e : Pulse) (own other : Bool) (p : Place) (r : Reply) → p .slot ≡ Open r → (y : Reply) → y ≡ hearBy (goesTo (f1 r) (e .tick .0)) e (verdict (e .main) own other) r
+    → record { slot = Open y } ≡ heardBy e own other p
+open-law e own other p r h y ey = (λ i. record { slot = Open (ey i) }) ∙ (λ i. record { slot = slotHeard e own other (sym h i) })
+
+-- what a place that covers the edge makes of it
+pub covered-law : (e : Pulse) (own other : Bool) (p : Place) → test (covers (e .tick .0)) p ≡ true → heardBy e own other p ≡ hearing e own other p
+covered-law e own other p h = ap (λ (k : ℕ). hearAt wrapped k e (verdict (e .main) own other) p) (go (p .slot) h)
+  where
+    go : (s : Slot) → testSlot (covers (e .tick .0)) s ≡ true → goesToSlot (e .tick .0) s ≡ positionSlot (e .tick .0) s
+    go Idle t = absurd (impossible (sym t))
+    go (Open r) t = covers-goes (f1 r) (e .tick .0) (covers-both r (e .tick .0) ∙ t)

@@ -1,23 +1,16 @@
-// What an edge makes of the places that cover it: a position of each is settled.
+// What an edge makes of a place that covers it: a position is settled.
 ghost use Prim.Native.Nat.{_<_};
 ghost use mathlib.Core.Path.{_≡_};
-ghost use mathlib.Core.Bool.{true, cond, _&&_};
+ghost use mathlib.Core.Bool.{cond};
 ghost use lib.Dec.{eqb};
-ghost use Rattle.rules.specs.Replies.{position, verdict, covers, agrees, average as average′};
-ghost use Rattle.rules.specs.Settings.{standard};
+ghost use Rattle.rules.specs.Replies.{verdict, average as average′};
 ghost use Rattle.replies.specs.Sums.{wrapped};
-ghost use Rattle.places.specs.Places.{test};
-ghost use Rattle.masks.specs.Masks.{coversFrom};
-ghost use Rattle.settling.specs.Hearing.{placeOf, freshIn, kindOf, estimateOf, hearBy};
-ghost use Rattle.settling.specs.Deals.{hearing, voicesIn, agreementBy};
-use covering::Words;
-use places::any3;
-use plane::marked;
+ghost use Rattle.settling.specs.Hearing.{positionNumber, goesTo, placeOf, freshIn, kindOf, estimateOf, hearBy};
+ghost use Rattle.settling.specs.Deals.{heardBy};
 use replies::average;
 use replies::choose;
 use replies::code_of;
 use replies::level_of;
-use replies::near;
 use replies::pick;
 use replies::settle_bit;
 use replies::sure_of;
@@ -29,66 +22,9 @@ use rules::Reply;
 use rules::Slot;
 use rules::Tick;
 
-// Whether each place covers an edge whose value agrees with its reference.
-pub struct Voices {
-    pub a: bool,
-    pub b: bool,
-    pub c: bool,
-    pub d: bool,
-}
-
-// The value agrees with the reference of the place's reply, if c.
-pub fn speaks(c: bool, p: Place, v: u8) -> bool
-    ensures { λ r. ⌜ r ≡ (c && test (agrees standard v) p) ⌝ }
-{
-    let s = p.slot;
-    match s {
-        Slot::Idle => false,
-        Slot::Open(r) => {
-            let f = r.reference;
-            let e = f.estimate;
-            c & near(level_of(e), v)
-        }
-    }
-}
-
-fn voices_of(p: [Place; 4], on: Words, i: u32, v: u8) -> Voices
-    requires { ⌜ i < 64 ⌝ }
-    ensures { λ r. ⌜ r ≡ voicesIn v on i p ⌝ }
-{
-    Voices {
-        a: speaks(marked(on.a, i), p[0], v),
-        b: speaks(marked(on.b, i), p[1], v),
-        c: speaks(marked(on.c, i), p[2], v),
-        d: speaks(marked(on.d, i), p[3], v),
-    }
-}
-
-// Of the places that cover an edge: whose reference its value agrees with, and beside whom it agrees with another's.
-pub struct Agreement {
-    pub own: Voices,
-    pub other: Voices,
-}
-
-pub fn agreement_of(p: [Place; 4], on: Words, i: u32, v: u8) -> Agreement
-    requires { ⌜ i < 64 ⌝ }
-    ensures { λ r. ⌜ r ≡ agreementBy (voicesIn v on i p) ⌝ }
-{
-    let own = voices_of(p, on, i, v);
-    let other = Voices {
-        a: any3(own.b, own.c, own.d),
-        b: any3(own.a, own.c, own.d),
-        c: any3(own.a, own.b, own.d),
-        d: any3(own.a, own.b, own.c),
-    };
-    Agreement { own, other }
-}
-
-// ---- settling
-
-// The position of a reply with F1 at q that covers u, where one does.
+// The position of a reply with F1 at q that covers u, where one does; else a number up to 21.
 fn position_of(q: Tick, u: Tick) -> u32
-    ensures { λ k. ⌜ (coversFrom (q .0) (u .0) ≡ true → k ≡ position (q .0) (u .0)) ⌝ }
+    ensures { λ k. ⌜ k ≡ positionNumber (q .0) (u .0) ⌝ }
 {
     let d = std::num::wrapping_sub_u64(u.0 as u64 + 1, q.0 as u64);
     (d % 256 / 12) as u32
@@ -145,9 +81,9 @@ fn taken_in(f: Reference, h: u16, v: u8) -> Reference
     Reference { estimate, n, s }
 }
 
-// The reply after the edge e, which it covers; by whether it agrees, and another does.
+// The reply after the edge e goes to it; by whether it agrees, and another does.
 fn hear(r: Reply, e: Pulse, own: bool, other: bool) -> Reply
-    ensures { λ y. ⌜ (covers (e .tick .0) r ≡ true → y ≡ hearBy (position (r .f1 .0) (e .tick .0)) e (verdict (e .main) own other) r) ⌝ }
+    ensures { λ y. ⌜ y ≡ hearBy (goesTo (r .f1 .0) (e .tick .0)) e (verdict (e .main) own other) r ⌝ }
 {
     let q = r.f1;
     let w = r.word;
@@ -168,9 +104,9 @@ fn hear(r: Reply, e: Pulse, own: bool, other: bool) -> Reply
     }
 }
 
-// The place after the edge e, which it covers.
+// The place after the edge e goes to it.
 pub fn heard(p: Place, e: Pulse, own: bool, other: bool) -> Place
-    ensures { λ y. ⌜ (test (covers (e .tick .0)) p ≡ true → y ≡ hearing e own other p) ⌝ }
+    ensures { λ y. ⌜ y ≡ heardBy e own other p ⌝ }
 {
     let s = p.slot;
     match s {

@@ -1,16 +1,16 @@
 // The survey program: frames from standard input, replies and totals to standard output, up to the end of input or the first refusal.
 // What is printed for which input is proved in the crate `lines`; here bytes are only read and written. Standard error gets one line: which
 // refusal stopped the survey and after how many bytes of input, or what could not be read or written.
-use carry::Step;
-use carry::rest_step;
+use answers::Step;
+use answers::rest_step;
 use libc::EINTR;
 use libc::STDERR_FILENO;
 use libc::STDIN_FILENO;
 use libc::STDOUT_FILENO;
 use lines::Scan;
 use lines::scan_lines;
-use sweep::Processor;
-use sweep::idle;
+use processor::Processor;
+use processor::idle;
 ghost use Prim.Native.Nat.{_≤_};
 ghost use mathlib.Core.Path.{_≡_};
 ghost use lib.ListN.{length};
@@ -212,7 +212,7 @@ fn pass(p: Processor, input: &[u8], from: usize, used: u64, output: &mut [u8]) -
 }
 
 // Carries out the whole lines of the first n bytes of the input. What is left moves to the start of the buffer.
-fn carried(s: Survey, input: &mut [u8], n: usize, output: &mut [u8]) -> Survey
+fn after_lines(s: Survey, input: &mut [u8], n: usize, output: &mut [u8]) -> Survey
     requires { ⌜ n ≤ length (now input) ⌝ }
 {
     let mut p = s.processor;
@@ -245,7 +245,7 @@ fn turn(s: Survey, input: &mut [u8], output: &mut [u8]) -> Survey {
     let came = r.came;
     let n = r.n;
     match came {
-        Came::More => carried(s, input, n, output),
+        Came::More => after_lines(s, input, n, output),
         Came::End => {
             last(s.used, &input[..n], output);
             ended(s.processor)

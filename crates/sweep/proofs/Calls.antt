@@ -14,19 +14,19 @@ use Rattle.rules.specs.Lists.{All}
 use Rattle.rules.specs.Samples.{Trace, _⧺_}
 use Rattle.rules.specs.Machine.{final}
 use Rattle.rules.specs.Records.{records, replies, totals}
-use Rattle.rules.specs.Calls.{Answer as Verdict, accepted, refused, openAnswer, takeAnswer, closeAnswer, handed, fresh, rest}
+use Rattle.rules.specs.Calls.{Answer, accepted, refused, openAnswer, takeAnswer, closeAnswer, handed, fresh, rest}
 use Rattle.rules.proofs.Truth.{and-left}
 use Rattle.rules.proofs.ListLaws.{all-append}
 use Rattle.rules.proofs.Outcomes.{accounted}
 use Rattle.rules.proofs.Joining.{handed-fresh, handed-rest, records-append}
 use Rattle.sweep.specs.declared.Answer.the-variants.{Accepted, Refused}
-use Rattle.sweep.specs.declared.Processor.{Processor}
+use Rattle.processor.specs.declared.Processor.{Processor}
 use Rattle.sweep.specs.declared.Opened.{Opened}
 use Rattle.sweep.specs.declared.Taken.{Taken}
 use Rattle.sweep.specs.declared.Closed.{Closed}
-use Rattle.sweep.specs.State.{none, running, idleProcessor, runningProcessor, processorOf, Within, Made}
+use Rattle.processor.specs.State.{none, running, idleProcessor, runningProcessor, processorOf, Within, Made}
 use Rattle.rules.specs.Buffers.{over}
-use Rattle.sweep.specs.Post.{openAs, openOf, takeVerdict, closeVerdict, takeAs, takeBufferAs, closeAs, closeBufferAs, noTotals, TakePost, ClosePost}
+use Rattle.sweep.specs.Post.{openAs, openOf, takeAnswerAt, closeAnswerAt, takeAs, takeBufferAs, closeAs, closeBufferAs, noTotals, TakePost, ClosePost}
 use Rattle.sweep.specs.Whole.{Call, taking, closing, Chain, last, nothing, joinedTrace, allHandedOut, allTotals, Judged, answer, afterClose, Counted, Whole, Demand3, Alike}
 use Rattle.rules.proofs.Answers.{standard-allowed, took, first-records, join-assoc, join-nothing}
 
@@ -51,24 +51,24 @@ idle-made p e = record { is = e; sound = tt }
 -- the calls after a close, from the idle processor
 over-take : (p : Processor) (P : Trace) (b : List ℕ) (cs : List Call) → Over idleProcessor cs
     → Over p (taking P b (record { answer = Refused 3; processor = idleProcessor }) b ∷ cs)
-unfolding takeVerdict takeAnswer
+unfolding takeAnswerAt takeAnswer
 over-take p P b cs o =
     record { judged = (refl, o .judged); idle = o .idle; joined = o .joined; handed = o .handed; totals = o .totals; three = (refl, o .three); later = o .later }
 
 over-close : (p : Processor) (b : List ℕ) (cs : List Call) → Over idleProcessor cs
     → Over p (closing b (record { answer = Refused 3; totals = noTotals; processor = idleProcessor }) b ∷ cs)
-unfolding closeVerdict closeAnswer
+unfolding closeAnswerAt closeAnswer
 over-close p b cs o =
     record { judged = (refl, o .judged); idle = o .idle; joined = o .joined; handed = o .handed; totals = o .totals; three = (refl, o .three); later = o .later }
 
 take-refused : (p : Processor) → p ≡ idleProcessor → (P : Trace) (b : List ℕ) (r : Taken) (b′ : List ℕ) → TakePost p P b r b′
     → (r ≡ record { answer = Refused 3; processor = idleProcessor }) × (b′ ≡ b)
-unfolding takeVerdict takeAnswer processorOf
+unfolding takeAnswerAt takeAnswer processorOf
 take-refused p e P b r b′ t = (t .result none (idle-made p e), t .buffer none (idle-made p e))
 
 close-refused : (p : Processor) → p ≡ idleProcessor → (b : List ℕ) (r : Closed) (b′ : List ℕ) → ClosePost p b r b′
     → (r ≡ record { answer = Refused 3; totals = noTotals; processor = idleProcessor }) × (b′ ≡ b)
-unfolding closeVerdict closeAnswer processorOf
+unfolding closeAnswerAt closeAnswer processorOf
 close-refused p e b r b′ t = (t .result none (idle-made p e), t .buffer none (idle-made p e))
 
 all-over : (cs : List Call) (p : Processor) → p ≡ idleProcessor → Chain p cs → Over p cs
@@ -112,13 +112,13 @@ module _ (mode azimuth : ℕ) (T : Trace) (w : Within mode T) where
       nil-cons q = let z : _≡_ {A = ℕ} 0 1 = cc in omega arith
 
   -- a refused call changes nothing
-  claim-refused-take : (p : Processor) (P : Trace) (b : List ℕ) (k : ℕ) (cs : List Call) → takeVerdict (running mode azimuth T) P (length b) ≡ refused k
+  claim-refused-take : (p : Processor) (P : Trace) (b : List ℕ) (k : ℕ) (cs : List Call) → takeAnswerAt (running mode azimuth T) P (length b) ≡ refused k
       → Claim mode azimuth T (runningProcessor mode azimuth T) cs
       → Claim mode azimuth T p (taking P b (record { answer = Refused k; processor = runningProcessor mode azimuth T }) b ∷ cs)
   claim-refused-take p P b k cs v c =
       record { judged = (sym v, c .judged); unclosed = c .unclosed; closed = c .closed; later = c .later }
 
-  claim-refused-close : (p : Processor) (b : List ℕ) (k : ℕ) (cs : List Call) → closeVerdict (running mode azimuth T) (length b) ≡ refused k
+  claim-refused-close : (p : Processor) (b : List ℕ) (k : ℕ) (cs : List Call) → closeAnswerAt (running mode azimuth T) (length b) ≡ refused k
       → Claim mode azimuth T (runningProcessor mode azimuth T) cs
       → Claim mode azimuth T p (closing b (record { answer = Refused k; totals = noTotals; processor = runningProcessor mode azimuth T }) b ∷ cs)
   claim-refused-close p b k cs v c =
@@ -132,7 +132,7 @@ module _ (mode azimuth : ℕ) (T : Trace) (w : Within mode T) where
         ∙ ap {B = List ℕ} (λ z. z ++ X)
         (sym (records-append (handed standard T) (fresh standard T P)) ∙ ap records (sym (handed-fresh standard standard-allowed T P (w .alike))))
 
-    claim-accepted-take : (p : Processor) (b : List ℕ) (cs : List Call) → takeVerdict (running mode azimuth T) P (length b) ≡ accepted
+    claim-accepted-take : (p : Processor) (b : List ℕ) (cs : List Call) → takeAnswerAt (running mode azimuth T) P (length b) ≡ accepted
         → Claim mode azimuth (T ⧺ P) (runningProcessor mode azimuth (T ⧺ P)) cs
         → Claim mode azimuth T p (taking P b (record { answer = Accepted (length (fresh standard T P)); processor = runningProcessor mode azimuth (T ⧺ P) }) (over (records (fresh standard T P)) b) ∷ cs)
     claim-accepted-take p b cs v c =
@@ -158,7 +158,7 @@ module _ (mode azimuth : ℕ) (T : Trace) (w : Within mode T) where
         }
 
   -- an accepted close, with the idle processor after it
-  claim-accepted-close : (p : Processor) (b : List ℕ) (cs : List Call) → closeVerdict (running mode azimuth T) (length b) ≡ accepted → Over idleProcessor cs
+  claim-accepted-close : (p : Processor) (b : List ℕ) (cs : List Call) → closeAnswerAt (running mode azimuth T) (length b) ≡ accepted → Over idleProcessor cs
       → Claim mode azimuth T p (closing b (record { answer = Accepted (length (rest standard T)); totals = totals (final standard T); processor = idleProcessor }) (over (records (rest standard T)) b) ∷ cs)
   claim-accepted-close p b cs v o =
       let z : T ≡ T ⧺ joinedTrace cs = sym (join-nothing T) ∙ ap (λ (R : Trace). T ⧺ R) (sym (o .joined)) in
@@ -190,15 +190,15 @@ module _ (mode azimuth : ℕ) (T : Trace) (w : Within mode T) where
       cons-tail : {x y : Totals} {xs ys : List Totals} → x ∷ xs ≡ y ∷ ys → xs ≡ ys
       cons-tail q = cc
 
--- ---- one call, by its verdict
+-- ---- one call, by its answer
 
 made-running : (mode azimuth : ℕ) (T : Trace) → Within mode T → Made (running mode azimuth T) (runningProcessor mode azimuth T)
 unfolding processorOf
 made-running mode azimuth T w = record { is = refl; sound = w }
 
 -- a sweep with an accepted piece more is within the limits
-within-more : (mode azimuth : ℕ) (T P : Trace) (room : ℕ) → Within mode T → All (λ v. v ≤ 255) (P .values) → takeVerdict (running mode azimuth T) P room ≡ accepted → Within mode (T ⧺ P)
-unfolding takeVerdict
+within-more : (mode azimuth : ℕ) (T P : Trace) (room : ℕ) → Within mode T → All (λ v. v ≤ 255) (P .values) → takeAnswerAt (running mode azimuth T) P room ≡ accepted → Within mode (T ⧺ P)
+unfolding takeAnswerAt
 within-more mode azimuth T P room w h v =
     let t = took true (length (T .flags)) (P .flags) (P .values) room v in
     record {
@@ -210,7 +210,7 @@ within-more mode azimuth T P room w h v =
 
 module _ (mode azimuth : ℕ) (T : Trace) (w : Within mode T) (cs : List Call)
     (ih : (R : Trace) → Within mode R → Chain (runningProcessor mode azimuth R) cs → Claim mode azimuth R (runningProcessor mode azimuth R) cs) where
-  take-by : (p : Processor) (P : Trace) (b : List ℕ) → All (λ v. v ≤ 255) (P .values) → (v : Verdict) → takeVerdict (running mode azimuth T) P (length b) ≡ v
+  take-by : (p : Processor) (P : Trace) (b : List ℕ) → All (λ v. v ≤ 255) (P .values) → (v : Answer) → takeAnswerAt (running mode azimuth T) P (length b) ≡ v
       → Chain (takeAs v (running mode azimuth T) P .processor) cs → Claim mode azimuth T p (taking P b (takeAs v (running mode azimuth T) P) (takeBufferAs v (running mode azimuth T) P b) ∷ cs)
   unfolding processorOf
   take-by p P b h accepted e c =
@@ -218,7 +218,7 @@ module _ (mode azimuth : ℕ) (T : Trace) (w : Within mode T) (cs : List Call)
       claim-accepted-take mode azimuth T w P p b cs e (ih (T ⧺ P) w′ c)
   take-by p P b h (refused k) e c = claim-refused-take mode azimuth T w p P b k cs e (ih T w c)
 
-  close-by : (p : Processor) (b : List ℕ) → (v : Verdict) → closeVerdict (running mode azimuth T) (length b) ≡ v
+  close-by : (p : Processor) (b : List ℕ) → (v : Answer) → closeAnswerAt (running mode azimuth T) (length b) ≡ v
       → Chain (closeAs v (running mode azimuth T) .processor) cs → Claim mode azimuth T p (closing b (closeAs v (running mode azimuth T)) (closeBufferAs v (running mode azimuth T) b) ∷ cs)
   unfolding processorOf
   close-by p b accepted e c = claim-accepted-close mode azimuth T w p b cs e (all-over cs idleProcessor refl c)
@@ -231,7 +231,7 @@ claim [] mode azimuth T w p e h = claim-nil mode azimuth T w p e
 claim (taking P b r b′ ∷ cs) mode azimuth T w p e h =
     let made = subst (Made (running mode azimuth T)) (sym e) (made-running mode azimuth T w) in
     let t = h .0 .1 in
-    let v = takeVerdict (running mode azimuth T) P (length b) in
+    let v = takeAnswerAt (running mode azimuth T) P (length b) in
     subst (λ (r : Taken). Chain (r .processor) cs → Claim mode azimuth T p (taking P b r b′ ∷ cs)) (sym (t .result (running mode azimuth T) made))
     (λ c. subst (λ (x : List ℕ). Claim mode azimuth T p (taking P b (takeAs v (running mode azimuth T) P) x ∷ cs)) (sym (t .buffer (running mode azimuth T) made))
     (take-by mode azimuth T w cs (λ R w′ c′. claim cs mode azimuth R w′ (runningProcessor mode azimuth R) refl c′) p P b (h .0 .0) v refl c))
@@ -239,7 +239,7 @@ claim (taking P b r b′ ∷ cs) mode azimuth T w p e h =
 claim (closing b r b′ ∷ cs) mode azimuth T w p e h =
     let made = subst (Made (running mode azimuth T)) (sym e) (made-running mode azimuth T w) in
     let t = h .0 in
-    let v = closeVerdict (running mode azimuth T) (length b) in
+    let v = closeAnswerAt (running mode azimuth T) (length b) in
     subst (λ (r : Closed). Chain (r .processor) cs → Claim mode azimuth T p (closing b r b′ ∷ cs)) (sym (t .result (running mode azimuth T) made))
     (λ c. subst (λ (x : List ℕ). Claim mode azimuth T p (closing b (closeAs v (running mode azimuth T)) x ∷ cs)) (sym (t .buffer (running mode azimuth T) made))
     (close-by mode azimuth T w cs (λ R w′ c′. claim cs mode azimuth R w′ (runningProcessor mode azimuth R) refl c′) p b v refl c))
@@ -287,7 +287,7 @@ begun : (mode azimuth : ℕ) (o : Opened) → o ≡ openOf mode azimuth → (k :
 unfolding openOf
 begun mode azimuth o e k q = go (openAnswer mode azimuth) refl e
   where
-    go : (v : Verdict) → openAnswer mode azimuth ≡ v → o ≡ openAs v mode azimuth → Begun mode azimuth o
+    go : (v : Answer) → openAnswer mode azimuth ≡ v → o ≡ openAs v mode azimuth → Begun mode azimuth o
     go accepted a d = record { named = mode-named mode azimuth a; processor = ap (λ (x : Opened). x .processor) d }
     go (refused n) a d = absurd (clash (sym q ∙ ap (λ (x : Opened). x .answer) d))
       where

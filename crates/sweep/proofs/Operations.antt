@@ -17,19 +17,21 @@ use Rattle.rules.specs.Lists.{All}
 use Rattle.rules.specs.Samples.{Trace, _⧺_}
 use Rattle.rules.specs.Machine.{final, State, after}
 use Rattle.rules.specs.Records.{records, totals, replies}
-use Rattle.rules.specs.Calls.{Answer as Verdict, accepted, refused, takeAnswer, closeAnswer, fresh, rest, silence}
+use Rattle.rules.specs.Calls.{Answer as RulesAnswer, accepted, refused, takeAnswer, closeAnswer, fresh, rest, silence}
 use Rattle.rules.proofs.PastEnd.{rest-silence, past-end, after-silence}
 use Rattle.places.specs.Places.{machineOf}
 use Rattle.rules.specs.Buffers.{over, over-at}
 use Rattle.sweep.specs.declared.Answer.{Answer}
 use Rattle.sweep.specs.declared.Answer.the-variants.{Accepted, Refused}
-use Rattle.sweep.specs.declared.Processor.{Processor}
+use Rattle.processor.specs.declared.Processor.{Processor}
 use Rattle.sweep.specs.declared.Taken.{Taken}
 use Rattle.sweep.specs.declared.Closed.{Closed}
-use Rattle.blocks.specs.declared.Progress.{Progress}
+use Rattle.processor.specs.declared.Progress.{Progress}
 use Rattle.front.specs.Words.{frontOf, recentOf}
-use Rattle.sweep.specs.State.{Sweep, none, running, idleProcessor, runningProcessor, processorOf, Within, Made}
-use Rattle.sweep.specs.Post.{takeVerdict, takeAs, takeBufferAs, TakePost, closeVerdict, closeAs, closeBufferAs, noTotals, ClosePost, totalsFrom}
+use Rattle.processor.specs.State.{Sweep, none, running, idleProcessor, runningProcessor, processorOf, Within, Made}
+use Rattle.sweep.specs.Post.{takeAnswerAt, takeAs, takeBufferAs, TakePost, closeAnswerAt, closeAs, closeBufferAs, noTotals, ClosePost, totalsFrom}
+use Rattle.processor.specs.Arrays.{progressOf, machineAt}
+use Rattle.processor.proofs.ProcessorLaws.{mode-of, azimuth-of, taken-of, front-of, recent-of, machine-of}
 use Rattle.blocks.specs.Steps.{stateAt, Fed}
 use Rattle.pieces.specs.Feeding.{FeedPost, DrainPost}
 use Rattle.front.specs.Post.{KeepPost}
@@ -62,31 +64,6 @@ idle-mode : idleProcessor .mode ≡ 0
 unfolding idleProcessor runningProcessor
 idle-mode = refl
 
-module _ (mode azimuth : ℕ) (T : Trace) (p : Processor) (e : p ≡ runningProcessor mode azimuth T) where
-  pub mode-of : p .mode ≡ mode
-  unfolding runningProcessor
-  mode-of = ap (λ (q : Processor). q .mode) e
-
-  pub azimuth-of : p .azimuth ≡ azimuth
-  unfolding runningProcessor
-  azimuth-of = ap (λ (q : Processor). q .azimuth) e
-
-  pub taken-of : p .taken ≡ length (T .flags)
-  unfolding runningProcessor
-  taken-of = ap (λ (q : Processor). q .taken) e
-
-  pub front-of : p .front ≡ frontOf (T .flags)
-  unfolding runningProcessor
-  front-of = ap (λ (q : Processor). q .front) e
-
-  pub recent-of : p .recent ≡ recentOf (T .values)
-  unfolding runningProcessor
-  recent-of = ap (λ (q : Processor). q .recent) e
-
-  pub machine-of : p .machine ≡ machineOf (stateAt T (length (T .flags) - 178))
-  unfolding runningProcessor
-  machine-of = ap (λ (q : Processor). q .machine) e
-
 -- the sweep of a processor runs if its mode is not 0
 mode-none : (p : Processor) → Made none p → ltb 0 (p .mode) ≡ false
 unfolding processorOf
@@ -96,16 +73,16 @@ mode-running : (p : Processor) (mode azimuth : ℕ) (T : Trace) → Made (runnin
 unfolding processorOf
 mode-running p mode azimuth T m = lt-ltb 0 (p .mode) (omega (arith, mode-of mode azimuth T p (m .is), m .sound .named))
 
-no-verdict : (k : ℕ) → refused k ≡ accepted → ⊥
-no-verdict k e = let z : _≡_ {A = ℕ} 0 1 = cc in omega arith
+refused-not-accepted : (k : ℕ) → refused k ≡ accepted → ⊥
+refused-not-accepted k e = let z : _≡_ {A = ℕ} 0 1 = cc in omega arith
 
--- ---- the verdict on a take, from the processor's mode and count of ticks
+-- ---- the answer to a take, from the processor's mode and count of ticks
 
-take-verdict : (p : Processor) (P : Trace) (room : ℕ) (σ : Sweep) → Made σ p
-    → takeVerdict σ P room ≡ takeAnswer (ltb 0 (p .mode)) (p .taken) (P .flags) (P .values) room
-unfolding takeVerdict takeAnswer processorOf
-take-verdict p P room none m = rw (mode-none p m)
-take-verdict p P room (running mode azimuth T) m =
+take-answer-at : (p : Processor) (P : Trace) (room : ℕ) (σ : Sweep) → Made σ p
+    → takeAnswerAt σ P room ≡ takeAnswer (ltb 0 (p .mode)) (p .taken) (P .flags) (P .values) room
+unfolding takeAnswerAt takeAnswer processorOf
+take-answer-at p P room none m = rw (mode-none p m)
+take-answer-at p P room (running mode azimuth T) m =
     ap (λ (t : ℕ). takeAnswer true t (P .flags) (P .values) room) (sym (taken-of mode azimuth T p (m .is)))
     ∙ ap (λ (x : Bool). takeAnswer x (p .taken) (P .flags) (P .values) room) (sym (mode-running p mode azimuth T m))
 
@@ -114,15 +91,15 @@ pub take-no : (p : Processor) (flags values b : List ℕ) (k : ℕ) (r : Taken) 
     → r ≡ record { answer = Refused k; processor = p } → TakePost p (record { flags = flags; values = values }) b r b
 take-no p flags values b k r e q =
     record {
-      result = λ σ m. q ∙ ap (λ (x : Processor). record { answer = Refused k; processor = x }) (m .is) ∙ sym (ap (λ (v : Verdict). takeAs v σ P) (verdict σ m));
-      buffer = λ σ m. sym (ap (λ (v : Verdict). takeBufferAs v σ P b) (verdict σ m));
+      result = λ σ m. q ∙ ap (λ (x : Processor). record { answer = Refused k; processor = x }) (m .is) ∙ sym (ap (λ (v : RulesAnswer). takeAs v σ P) (is-refused σ m));
+      buffer = λ σ m. sym (ap (λ (v : RulesAnswer). takeBufferAs v σ P b) (is-refused σ m));
     }
   where
     P : Trace
     P = record { flags = flags; values = values }
 
-    verdict : (σ : Sweep) → Made σ p → takeVerdict σ P (length b) ≡ refused k
-    verdict σ m = take-verdict p P (length b) σ m ∙ e
+    is-refused : (σ : Sweep) → Made σ p → takeAnswerAt σ P (length b) ≡ refused k
+    is-refused σ m = take-answer-at p P (length b) σ m ∙ e
 
 -- ---- an accepted take
 
@@ -138,24 +115,24 @@ bytes-all : (l : List ℕ) → ((i : ℕ) → getD l i 0 < 256) → All (λ v. v
 bytes-all [] h = tt
 bytes-all (v ∷ l) h = (omega (arith, h 0), bytes-all l (λ i. h (suc i)))
 
-module _ (p : Processor) (flags values b : List ℕ) (verdict : takeAnswer (ltb 0 (p .mode)) (p .taken) flags values (length b) ≡ accepted) (bytes : (i : ℕ) → getD values i 0 < 256)
-    (o y : Progress) (b′ recent′ : List ℕ) (oe : o ≡ record { front = p .front; machine = p .machine; at = 0 })
+module _ (p : Processor) (flags values b : List ℕ) (is-accepted : takeAnswer (ltb 0 (p .mode)) (p .taken) flags values (length b) ≡ accepted) (bytes : (i : ℕ) → getD values i 0 < 256)
+    (o y : Progress) (b′ recent′ : List ℕ) (oe : o ≡ progressOf p)
     (fd : FeedPost o (p .recent) (p .taken) flags values b y b′) (kp : KeepPost (p .recent) values recent′) where
   abbrev result : Taken
   result =
       record {
         answer = Accepted (y .at / 18);
-        processor = record { mode = p .mode; azimuth = p .azimuth; taken = p .taken + length flags; front = y .front; recent = recent′; machine = y .machine };
+        processor = record { mode = p .mode; azimuth = p .azimuth; taken = p .taken + length flags; front = y .front; recent = recent′; machine = machineAt y };
       }
 
   module _ (m azimuth : ℕ) (T : Trace) (is : p ≡ runningProcessor m azimuth T) (w : Within m T) where
     fed : Fed T (record { flags = flags; values = values }) b y b′
     fed =
-        let h = took (ltb 0 (p .mode)) (p .taken) flags values (length b) verdict in
+        let h = took (ltb 0 (p .mode)) (p .taken) flags values (length b) is-accepted in
         fd .result T
         (record {
           front = ap (λ (x : Progress). x .front) oe ∙ front-of m azimuth T p is;
-          machine = ap (λ (x : Progress). x .machine) oe ∙ machine-of m azimuth T p is;
+          machine = ap machineAt oe ∙ machine-of m azimuth T p is;
           place = ap (λ (x : Progress). x .at) oe;
           kept = recent-of m azimuth T p is;
           ticks = sym (taken-of m azimuth T p is);
@@ -179,19 +156,19 @@ module _ (p : Processor) (flags values b : List ℕ) (verdict : takeAnswer (ltb 
         let e6 = fed .machine in
         λ i. record { answer = Accepted (c i); processor = record { mode = e1 i; azimuth = e2 i; taken = e3 i; front = e4 i; recent = e5 i; machine = e6 i } }
 
-  accepts : (σ : Sweep) → Made σ p → takeVerdict σ (record { flags = flags; values = values }) (length b) ≡ accepted
-  accepts σ q = take-verdict p (record { flags = flags; values = values }) (length b) σ q ∙ verdict
+  accepts : (σ : Sweep) → Made σ p → takeAnswerAt σ (record { flags = flags; values = values }) (length b) ≡ accepted
+  accepts σ q = take-answer-at p (record { flags = flags; values = values }) (length b) σ q ∙ is-accepted
 
   runs : Made none p → ⊥
-  unfolding takeVerdict takeAnswer
-  runs q = no-verdict 3 (accepts none q)
+  unfolding takeAnswerAt takeAnswer
+  runs q = refused-not-accepted 3 (accepts none q)
 
   pub take-done : (r : Taken) → r ≡ result → TakePost p (record { flags = flags; values = values }) b r b′
   unfolding processorOf
   take-done r e =
       record {
-        result = λ σ q. e ∙ go σ q ∙ sym (ap (λ (x : Verdict). takeAs x σ (record { flags = flags; values = values })) (accepts σ q));
-        buffer = λ σ q. wrote σ q ∙ sym (ap (λ (x : Verdict). takeBufferAs x σ (record { flags = flags; values = values }) b) (accepts σ q));
+        result = λ σ q. e ∙ go σ q ∙ sym (ap (λ (x : RulesAnswer). takeAs x σ (record { flags = flags; values = values })) (accepts σ q));
+        buffer = λ σ q. wrote σ q ∙ sym (ap (λ (x : RulesAnswer). takeBufferAs x σ (record { flags = flags; values = values }) b) (accepts σ q));
       }
     where
       go : (σ : Sweep) → Made σ p → result ≡ takeAs accepted σ (record { flags = flags; values = values })
@@ -206,10 +183,10 @@ module _ (p : Processor) (flags values b : List ℕ) (verdict : takeAnswer (ltb 
 
 -- ---- closing
 
-close-verdict : (p : Processor) (room : ℕ) (σ : Sweep) → Made σ p → closeVerdict σ room ≡ closeAnswer (ltb 0 (p .mode)) room
-unfolding closeVerdict
-close-verdict p room none m = ap (λ (x : Bool). closeAnswer x room) (sym (mode-none p m))
-close-verdict p room (running mode azimuth T) m = ap (λ (x : Bool). closeAnswer x room) (sym (mode-running p mode azimuth T m))
+close-answer-at : (p : Processor) (room : ℕ) (σ : Sweep) → Made σ p → closeAnswerAt σ room ≡ closeAnswer (ltb 0 (p .mode)) room
+unfolding closeAnswerAt
+close-answer-at p room none m = ap (λ (x : Bool). closeAnswer x room) (sym (mode-none p m))
+close-answer-at p room (running mode azimuth T) m = ap (λ (x : Bool). closeAnswer x room) (sym (mode-running p mode azimuth T m))
 
 -- a close that is turned down with k
 pub close-no : (p : Processor) (b : List ℕ) (k : ℕ) (r : Closed) → closeAnswer (ltb 0 (p .mode)) (length b) ≡ refused k
@@ -217,27 +194,27 @@ pub close-no : (p : Processor) (b : List ℕ) (k : ℕ) (r : Closed) → closeAn
 close-no p b k r e q =
     record {
       result =
-          λ σ m. q ∙ ap (λ (x : Processor). record { answer = Refused k; totals = noTotals; processor = x }) (m .is) ∙ sym (ap (λ (v : Verdict). closeAs v σ) (verdict σ m));
-      buffer = λ σ m. sym (ap (λ (v : Verdict). closeBufferAs v σ b) (verdict σ m));
+          λ σ m. q ∙ ap (λ (x : Processor). record { answer = Refused k; totals = noTotals; processor = x }) (m .is) ∙ sym (ap (λ (v : RulesAnswer). closeAs v σ) (is-refused σ m));
+      buffer = λ σ m. sym (ap (λ (v : RulesAnswer). closeBufferAs v σ b) (is-refused σ m));
     }
   where
-    verdict : (σ : Sweep) → Made σ p → closeVerdict σ (length b) ≡ refused k
-    verdict σ m = close-verdict p (length b) σ m ∙ e
+    is-refused : (σ : Sweep) → Made σ p → closeAnswerAt σ (length b) ≡ refused k
+    is-refused σ m = close-answer-at p (length b) σ m ∙ e
 
 -- an accepted close has room
 close-fits : (running : Bool) (room : ℕ) → closeAnswer running room ≡ accepted → 144 ≤ room
 unfolding closeAnswer
-close-fits false room e = absurd (no-verdict 3 e)
+close-fits false room e = absurd (refused-not-accepted 3 e)
 close-fits true room e = ltb-false room 144 (go (ltb room 144) e)
   where
     go : (x : Bool) → cond x (refused 7) accepted ≡ accepted → x ≡ false
-    go true q = absurd (no-verdict 7 q)
+    go true q = absurd (refused-not-accepted 7 q)
     go false q = refl
 
-module _ (p : Processor) (b : List ℕ) (verdict : closeAnswer (ltb 0 (p .mode)) (length b) ≡ accepted) (base : ℕ) (eb : p .taken ≤ 32768 → base ≡ p .taken) (o y : Progress) (b′ : List ℕ)
-    (oe : o ≡ record { front = p .front; machine = p .machine; at = 0 }) (dr : DrainPost o (p .recent) base b y b′) where
+module _ (p : Processor) (b : List ℕ) (is-accepted : closeAnswer (ltb 0 (p .mode)) (length b) ≡ accepted) (base : ℕ) (eb : p .taken ≤ 32768 → base ≡ p .taken) (o y : Progress) (b′ : List ℕ)
+    (oe : o ≡ progressOf p) (dr : DrainPost o (p .recent) base b y b′) where
   abbrev closedResult : Closed
-  closedResult = record { answer = Accepted (y .at / 18); totals = totalsFrom (y .machine .counts); processor = idleProcessor }
+  closedResult = record { answer = Accepted (y .at / 18); totals = totalsFrom (y .counts); processor = idleProcessor }
 
   module _ (m azimuth : ℕ) (T : Trace) (is : p ≡ runningProcessor m azimuth T) (w : Within m T) where
     drained : Fed T (silence 448) b y b′
@@ -247,14 +224,14 @@ module _ (p : Processor) (b : List ℕ) (verdict : closeAnswer (ltb 0 (p .mode))
         dr .result T
         (record {
           front = ap (λ (x : Progress). x .front) oe ∙ front-of m azimuth T p is;
-          machine = ap (λ (x : Progress). x .machine) oe ∙ machine-of m azimuth T p is;
+          machine = ap machineAt oe ∙ machine-of m azimuth T p is;
           place = ap (λ (x : Progress). x .at) oe;
           kept = recent-of m azimuth T p is;
           ticks = omega (arith, t, c);
           alike = w .alike;
           bytes = w .bytes;
           limit = omega (arith, t, c, w .short);
-          room = close-fits (ltb 0 (p .mode)) (length b) verdict;
+          room = close-fits (ltb 0 (p .mode)) (length b) is-accepted;
         })
 
     left : fresh standard T (silence 448) ≡ rest standard T
@@ -267,19 +244,19 @@ module _ (p : Processor) (b : List ℕ) (verdict : closeAnswer (ltb 0 (p .mode))
         let t = ap (λ (z : Machine). totalsFrom (z .counts)) (d .machine) ∙ totals-law T in
         λ i. record { answer = Accepted (c i); totals = t i; processor = idleProcessor }
 
-  closes : (σ : Sweep) → Made σ p → closeVerdict σ (length b) ≡ accepted
-  closes σ q = close-verdict p (length b) σ q ∙ verdict
+  closes : (σ : Sweep) → Made σ p → closeAnswerAt σ (length b) ≡ accepted
+  closes σ q = close-answer-at p (length b) σ q ∙ is-accepted
 
   runs-still : Made none p → ⊥
-  unfolding closeVerdict closeAnswer
-  runs-still q = no-verdict 3 (closes none q)
+  unfolding closeAnswerAt closeAnswer
+  runs-still q = refused-not-accepted 3 (closes none q)
 
   pub close-done : (r : Closed) → r ≡ closedResult → ClosePost p b r b′
   unfolding processorOf
   close-done r e =
       record {
-        result = λ σ q. e ∙ go σ q ∙ sym (ap (λ (v : Verdict). closeAs v σ) (closes σ q));
-        buffer = λ σ q. wrote σ q ∙ sym (ap (λ (v : Verdict). closeBufferAs v σ b) (closes σ q));
+        result = λ σ q. e ∙ go σ q ∙ sym (ap (λ (v : RulesAnswer). closeAs v σ) (closes σ q));
+        buffer = λ σ q. wrote σ q ∙ sym (ap (λ (v : RulesAnswer). closeBufferAs v σ b) (closes σ q));
       }
     where
       go : (σ : Sweep) → Made σ p → closedResult ≡ closeAs accepted σ

@@ -19,22 +19,25 @@ use Rattle.rules.proofs.Truth.{and-left, and-right, and-no, and-then}
 use Rattle.packing.specs.declared.Planes.{Planes}
 use Rattle.plane.specs.Words.{HoldsPart}
 use Rattle.packing.specs.Packing.{PackedPart}
-use Rattle.packing.specs.Flags.{noFlags}
-use Rattle.packing.proofs.flags.Bareness.{no-flag-at}
+use Rattle.flags.specs.Flags.{noFlags}
+use Rattle.flags.proofs.Flagless.{no-flag-at}
 use Rattle.plane.proofs.BitLaws.{zero-bit}
-use Rattle.sweep.specs.declared.Processor.{Processor}
+use Rattle.processor.specs.declared.Processor.{Processor}
 use Rattle.front.specs.declared.words.Front.{Front}
-use Rattle.blocks.specs.declared.Progress.{Progress}
-use Rattle.sweep.specs.State.{running, runningProcessor, processorOf, Made}
+use Rattle.processor.specs.declared.Progress.{Progress}
+use Rattle.processor.specs.State.{running, runningProcessor, processorOf, Made}
 use Rattle.front.specs.Words.{recentOf}
 use Rattle.front.specs.Post.{blank}
-use Rattle.blocks.specs.Steps.{noneDue, Fed}
+use Rattle.places.specs.Places.{idle}
+use Rattle.blocks.specs.Steps.{noneDue, Fed, quiet}
 use Rattle.blocks.specs.Feeding.{BlocksPost}
-use Rattle.sweep.specs.Post.{Rests, quiet}
+use Rattle.sweep.specs.Post.{Rests}
+use Rattle.processor.specs.Arrays.{progressOf}
+use Rattle.blocks.proofs.Quiet.{Quiet, quiet-is}
 use Rattle.blocks.proofs.Blank.{none-due-before, stays-law}
 use Rattle.blocks.proofs.Feeding.{Feeding, feed-start, feed-next, feed-end}
 use Rattle.pieces.proofs.Pieces.{enters-piece}
-use Rattle.sweep.proofs.Operations.{mode-of, azimuth-of, taken-of, front-of, recent-of, machine-of}
+use Rattle.processor.proofs.ProcessorLaws.{mode-of, azimuth-of, taken-of, front-of, recent-of, machine-of}
 
 -- ---- one tick
 
@@ -60,64 +63,19 @@ tick-none flags i e =
 
 -- ---- a piece
 
-module _ (o : Progress) (recent : List ℕ) (base : ℕ) (flags values b : List ℕ) (bare : noFlags flags ≡ true) (words : blank (o .front) ≡ true)
-    (waits : noneDue (o .machine .places .p0) (base + length flags) ≡ true) where
+module _ (o : Progress) (recent : List ℕ) (base : ℕ) (flags values b : List ℕ) (flagless : noFlags flags ≡ true) (words : blank (o .front) ≡ true)
+    (waits : noneDue (getD (o .places) 0 idle) (base + length flags) ≡ true) where
   resting : (i : ℕ) → i ≤ length flags → Feeding o recent base flags values b b o i
   resting zero h = feed-start o recent base flags values b
   resting (suc i) h =
       let t = base + (i + 1) in
       subst (λ (k : ℕ). Feeding o recent base flags values b b o k) (add-one i)
-      (feed-next o recent base flags values b b o i 1 t none o b (omega arith) refl (tick-none flags i (no-flag-at flags bare i))
-      (stays-law o none 1 t recent base values b (omega arith) refl words (none-due-before (o .machine .places .p0) t (base + length flags) (omega arith) waits))
+      (feed-next o recent base flags values b b o i 1 t none o b (omega arith) refl (tick-none flags i (no-flag-at flags flagless i))
+      (stays-law o none 1 t recent base values b (omega arith) refl words (none-due-before (getD (o .places) 0 idle) t (base + length flags) (omega arith) waits))
       (resting i (omega arith)))
 
   pub rests-law : BlocksPost o recent base flags values b o b
   rests-law = feed-end o recent base flags values b b o (length flags) (omega arith) (resting (length flags) (omega arith))
-
--- ---- a quiet piece
-
-module _ (f : Front) (first : Place) (base : ℕ) (flags : List ℕ) where
-  abbrev n : ℕ
-  n = length flags
-
-  -- the tests behind those of the lengths
-  abbrev finds-none : Bool
-  finds-none = noFlags flags && (blank f && noneDue first (base + n))
-
-  -- what the code finds, test by test
-  pub quiet-too-long : 4096 < n → false ≡ quiet f first base flags
-  quiet-too-long h = and-no (leb n pieceLimit) (leb (base + n) sweepLimit && finds-none) (lt-leb n 4096 h)
-
-  pub quiet-too-far : n ≤ 4096 → 32768 < base + n → false ≡ quiet f first base flags
-  quiet-too-far h l = and-then (leb n pieceLimit) (leb (base + n) sweepLimit && finds-none) false (le-leb n 4096 h) (and-no (leb (base + n) sweepLimit) finds-none (lt-leb (base + n) 32768 l))
-
-  pub quiet-within : (r : Bool) → n ≤ 4096 → base + n ≤ 32768 → r ≡ finds-none → r ≡ quiet f first base flags
-  quiet-within r h l e =
-      and-then (leb n pieceLimit) (leb (base + n) sweepLimit && finds-none) r (le-leb n 4096 h) (and-then (leb (base + n) sweepLimit) finds-none r (le-leb (base + n) 32768 l) e)
-
--- what a quiet piece is
-pub record Quiet (f : Front) (first : Place) (base : ℕ) (flags : List ℕ) : Type 0 where
-  pub limit : base + length flags ≤ sweepLimit
-  pub flagless : noFlags flags ≡ true
-  pub words : blank f ≡ true
-  pub waits : noneDue first (base + length flags) ≡ true
-
-pub quiet-is : (f : Front) (first : Place) (base : ℕ) (flags : List ℕ) → quiet f first base flags ≡ true → Quiet f first base flags
-quiet-is f first base flags e =
-    let n = length flags in
-    let w = noneDue first (base + n) in
-    let z = blank f && w in
-    let y = noFlags flags && z in
-    let x = leb (base + n) sweepLimit && y in
-    let e₁ = and-right (leb n pieceLimit) x e in
-    let e₂ = and-right (leb (base + n) sweepLimit) y e₁ in
-    let e₃ = and-right (noFlags flags) z e₂ in
-    record {
-      limit = leb-true (base + n) sweepLimit (and-left (leb (base + n) sweepLimit) y e₁);
-      flagless = and-left (noFlags flags) z e₂;
-      words = and-left (blank f) w e₃;
-      waits = and-right (blank f) w e₃;
-    }
 
 -- ---- the take of such a piece
 
@@ -132,7 +90,7 @@ module _ (p : Processor) (flags : List ℕ) (q : Quiet (p .front) (p .machine .p
   made-as = made .is
 
   o : Progress
-  o = record { front = p .front; machine = p .machine; at = 0 }
+  o = progressOf p
 
   room : List ℕ
   room = replicate (takeRoom (length flags)) 0

@@ -1,4 +1,3 @@
--- The processor of a sweep, the contracts of its operations, and demand 3.
-pub mod State
+-- The contracts of the operations, and demand 3.
 pub mod Post
 pub mod Whole

@@ -11,25 +11,27 @@ use Rattle.rules.specs.Samples.{Trace, _⧺_, pieceLimit, sweepLimit}
 use Rattle.rules.specs.Buffers.{over}
 use Rattle.rules.specs.Machine.{final}
 use Rattle.rules.specs.Records.{records, totals}
-use Rattle.rules.specs.Calls.{Answer as Verdict, accepted, refused, openAnswer, takeAnswer, closeAnswer, fresh, rest}
+use Rattle.rules.specs.Calls.{Answer, accepted, refused, openAnswer, takeAnswer, closeAnswer, fresh, rest}
 use Rattle.rules.specs.declared.Totals.{Totals}
 use Rattle.sweep.specs.declared.Answer.the-variants.{Accepted, Refused}
 use Rattle.rules.specs.declared.Counts.{Counts}
 use Rattle.rules.specs.declared.Place.{Place}
-use Rattle.packing.specs.Flags.{noFlags}
+use Rattle.flags.specs.Flags.{noFlags}
 use Rattle.front.specs.declared.words.Front.{Front}
-use Rattle.sweep.specs.declared.Processor.{Processor}
+use Rattle.processor.specs.declared.Processor.{Processor}
 use Rattle.sweep.specs.declared.Opened.{Opened}
 use Rattle.sweep.specs.declared.Taken.{Taken}
 use Rattle.sweep.specs.declared.Closed.{Closed}
-use Rattle.sweep.specs.State.{Sweep, none, running, processorOf, idleProcessor, runningProcessor, isOpen, takenBy, Made}
+use Rattle.processor.specs.State.{Sweep, none, running, processorOf, idleProcessor, runningProcessor, isOpen, takenBy, Made}
 use Rattle.front.specs.Words.{recentOf}
 use Rattle.front.specs.Post.{blank}
+use Rattle.processor.specs.declared.Progress.{Progress}
+use Rattle.processor.specs.Arrays.{listed}
 use Rattle.blocks.specs.Steps.{noneDue}
 
 -- ---- open. "No processor comes back": a refused opening's is the idle one.
 
-abbrev pub openAs : Verdict → ℕ → ℕ → Opened
+abbrev pub openAs : Answer → ℕ → ℕ → Opened
 openAs accepted mode azimuth = record { answer = Accepted 0; processor = runningProcessor mode azimuth (record { flags = []; values = [] }) }
 openAs (refused k) mode azimuth = record { answer = Refused k; processor = idleProcessor }
 
@@ -52,21 +54,21 @@ abbrev pub countOf : Sweep → Trace → ℕ
 countOf none P = 0
 countOf (running mode azimuth T) P = length (fresh standard T P)
 
-unfoldable pub takeVerdict : Sweep → Trace → ℕ → Verdict
+unfoldable pub takeAnswerAt : Sweep → Trace → ℕ → Answer
 unfolding takeAnswer
-takeVerdict σ P room = takeAnswer (isOpen σ) (takenBy σ) (P .flags) (P .values) room
+takeAnswerAt σ P room = takeAnswer (isOpen σ) (takenBy σ) (P .flags) (P .values) room
 
-abbrev pub takeAs : Verdict → Sweep → Trace → Taken
+abbrev pub takeAs : Answer → Sweep → Trace → Taken
 takeAs accepted σ P = record { answer = Accepted (countOf σ P); processor = processorOf (longer σ P) }
 takeAs (refused k) σ P = record { answer = Refused k; processor = processorOf σ }
 
-abbrev pub takeBufferAs : Verdict → Sweep → Trace → List ℕ → List ℕ
+abbrev pub takeBufferAs : Answer → Sweep → Trace → List ℕ → List ℕ
 takeBufferAs accepted σ P b = over (handedOut σ P) b
 takeBufferAs (refused k) σ P b = b
 
 pub record TakePost (p : Processor) (P : Trace) (b : List ℕ) (r : Taken) (b′ : List ℕ) : Type 0 where
-  pub result : (σ : Sweep) → Made σ p → r ≡ takeAs (takeVerdict σ P (length b)) σ P
-  pub buffer : (σ : Sweep) → Made σ p → b′ ≡ takeBufferAs (takeVerdict σ P (length b)) σ P b
+  pub result : (σ : Sweep) → Made σ p → r ≡ takeAs (takeAnswerAt σ P (length b)) σ P
+  pub buffer : (σ : Sweep) → Made σ p → b′ ≡ takeBufferAs (takeAnswerAt σ P (length b)) σ P b
 
 -- ---- a take that finds nothing
 
@@ -76,17 +78,11 @@ pub record Rests (p : Processor) (mode azimuth : ℕ) (T P : Trace) : Type 0 whe
   pub processor : record { mode = p .mode; azimuth = p .azimuth; taken = p .taken + length (P .flags); front = p .front; recent = recentOf (T .values ++ P .values); machine = p .machine }
       ≡ runningProcessor mode azimuth (T ⧺ P)
 
--- a piece of these flags, behind `base` ticks, that finds nothing: it is no longer than a piece and within the sweep, no flag is set, no word has a bit, and the
--- reply of the first place does not become due
-abbrev pub quiet : Front → Place → ℕ → List ℕ → Bool
-quiet f first base flags =
-    leb (length flags) pieceLimit && (leb (base + length flags) sweepLimit && (noFlags flags && (blank f && noneDue first (base + length flags))))
-
 -- ---- close
 
-unfoldable pub closeVerdict : Sweep → ℕ → Verdict
+unfoldable pub closeAnswerAt : Sweep → ℕ → Answer
 unfolding closeAnswer
-closeVerdict σ room = closeAnswer (isOpen σ) room
+closeAnswerAt σ room = closeAnswer (isOpen σ) room
 
 abbrev pub noTotals : Totals
 noTotals = record { found = 0; replies = 0; sidelobe = 0; garbled = 0; lost = 0; phantoms = 0 }
@@ -105,17 +101,17 @@ totalsOf none = noTotals
 totalsOf (running mode azimuth T) = totals (final standard T)
 
 -- a refusal "returns its number alone": the totals beside it are zero
-abbrev pub closeAs : Verdict → Sweep → Closed
+abbrev pub closeAs : Answer → Sweep → Closed
 closeAs accepted σ = record { answer = Accepted (leftCount σ); totals = totalsOf σ; processor = idleProcessor }
 closeAs (refused k) σ = record { answer = Refused k; totals = noTotals; processor = processorOf σ }
 
-abbrev pub closeBufferAs : Verdict → Sweep → List ℕ → List ℕ
+abbrev pub closeBufferAs : Answer → Sweep → List ℕ → List ℕ
 closeBufferAs accepted σ b = over (leftOver σ) b
 closeBufferAs (refused k) σ b = b
 
 pub record ClosePost (p : Processor) (b : List ℕ) (r : Closed) (b′ : List ℕ) : Type 0 where
-  pub result : (σ : Sweep) → Made σ p → r ≡ closeAs (closeVerdict σ (length b)) σ
-  pub buffer : (σ : Sweep) → Made σ p → b′ ≡ closeBufferAs (closeVerdict σ (length b)) σ b
+  pub result : (σ : Sweep) → Made σ p → r ≡ closeAs (closeAnswerAt σ (length b)) σ
+  pub buffer : (σ : Sweep) → Made σ p → b′ ≡ closeBufferAs (closeAnswerAt σ (length b)) σ b
 
 -- the totals, from the counts of the machine
 abbrev pub totalsFrom : Counts → Totals

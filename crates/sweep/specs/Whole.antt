@@ -9,16 +9,16 @@ use Rattle.rules.specs.Samples.{Trace, _⧺_}
 use Rattle.rules.specs.Edges.{edgeAt}
 use Rattle.rules.specs.Machine.{final, bracketsBelow}
 use Rattle.rules.specs.Records.{records, replies, totals}
-use Rattle.rules.specs.Calls.{Answer as Verdict, accepted, refused, handed}
+use Rattle.rules.specs.Calls.{Answer as RulesAnswer, accepted, refused, handed}
 use Rattle.rules.specs.declared.Totals.{Totals}
 use Rattle.sweep.specs.declared.Answer.{Answer}
 use Rattle.sweep.specs.declared.Answer.the-variants.{Accepted, Refused}
-use Rattle.sweep.specs.declared.Processor.{Processor}
+use Rattle.processor.specs.declared.Processor.{Processor}
 use Rattle.sweep.specs.declared.Opened.{Opened}
 use Rattle.sweep.specs.declared.Taken.{Taken}
 use Rattle.sweep.specs.declared.Closed.{Closed}
-use Rattle.sweep.specs.State.{Sweep, none, running, idleProcessor, runningProcessor}
-use Rattle.sweep.specs.Post.{openOf, longer, takeVerdict, closeVerdict, TakePost, ClosePost}
+use Rattle.processor.specs.State.{Sweep, none, running, idleProcessor, runningProcessor}
+use Rattle.sweep.specs.Post.{openOf, longer, takeAnswerAt, closeAnswerAt, TakePost, ClosePost}
 
 -- ---- calls
 
@@ -93,9 +93,9 @@ allTotals (c ∷ cs) = totalsIn c ++ allTotals cs
 -- ---- accepted or refused
 
 -- "A call is accepted exactly when none of its refusal numbers holds", and otherwise returns the first that holds, at the sweep that the calls before it made
-abbrev pub verdictBy : Answer → Verdict
-verdictBy (Accepted k) = accepted
-verdictBy (Refused k) = refused k
+abbrev pub answerBy : Answer → RulesAnswer
+answerBy (Accepted k) = accepted
+answerBy (Refused k) = refused k
 
 abbrev pub sweepBy : Answer → Sweep → Sweep → Sweep
 sweepBy (Accepted k) σ′ σ = σ′
@@ -103,8 +103,8 @@ sweepBy (Refused k) σ′ σ = σ
 
 abbrev pub Judged : Sweep → List Call → Type 0
 Judged σ [] = Unit {0}
-Judged σ (taking P b r b′ ∷ cs) = (verdictBy (r .answer) ≡ takeVerdict σ P (length b)) × Judged (sweepBy (r .answer) (longer σ P) σ) cs
-Judged σ (closing b r b′ ∷ cs) = (verdictBy (r .answer) ≡ closeVerdict σ (length b)) × Judged (sweepBy (r .answer) none σ) cs
+Judged σ (taking P b r b′ ∷ cs) = (answerBy (r .answer) ≡ takeAnswerAt σ P (length b)) × Judged (sweepBy (r .answer) (longer σ P) σ) cs
+Judged σ (closing b r b′ ∷ cs) = (answerBy (r .answer) ≡ closeAnswerAt σ (length b)) × Judged (sweepBy (r .answer) none σ) cs
 
 abbrev pub answer : Call → Answer
 answer (taking P b r b′) = r .answer

@@ -1,42 +1,28 @@
 // Opening, taking and closing a sweep. A processor goes in by value and comes back by value; a refusal gives back the one that went in.
 // No operation asks anything of its caller: any processor value, any slices and any buffer are safe.
-ghost use Prim.Native.Nat.{_+_, _/_, _≤_};
+ghost use Prim.Native.Nat.{_/_};
 ghost use mathlib.Core.List.{[]};
 ghost use mathlib.Core.Path.{_≡_};
 ghost use lib.Dec.{ltb};
 ghost use lib.ListN.{length};
-ghost use Rattle.rules.specs.Samples.{sweepLimit};
 ghost use Rattle.rules.specs.Calls.{accepted, takeAnswer, closeAnswer};
-ghost use Rattle.sweep.specs.State.{idleProcessor, runningProcessor};
-ghost use Rattle.sweep.specs.Post.{openOf, noTotals, TakePost, quiet, ClosePost, totalsFrom};
+ghost use Rattle.processor.specs.State.{idleProcessor, runningProcessor};
+ghost use Rattle.sweep.specs.Post.{openOf, noTotals, TakePost, ClosePost, totalsFrom};
 ghost use Rattle.sweep.specs.declared.Answer.the-variants.{Accepted, Refused};
-use blocks::Progress;
-use blocks::none_due;
 use front::values::keep;
-use front::words::Front;
-use front::words::is_blank;
-use front::words::no_front;
-use packing::flags::has_no_flag;
 use pieces::drain;
 use pieces::feed;
-use places::empty_machine;
+use processor::Processor;
+use processor::Progress;
+use processor::begun;
+use processor::idle;
+use processor::moved;
+use processor::progress_of;
+use refusals::close_refusal;
+use refusals::open_refusal;
+use refusals::take_refusal;
 use rules::Counts;
-use rules::Machine;
-use rules::Place;
 use rules::Totals;
-use verdicts::close_refusal;
-use verdicts::open_refusal;
-use verdicts::take_refusal;
-
-// Mode 0: no sweep is open. `recent` holds the values of the last 256 ticks, the newest last.
-pub struct Processor {
-    pub mode: u8,
-    pub azimuth: u16,
-    pub taken: u32,
-    pub front: Front,
-    pub recent: [u8; 256],
-    pub machine: Machine,
-}
 
 // A call was carried out, with so many records written, or turned down with a number.
 pub enum Answer {
@@ -58,27 +44,6 @@ pub struct Closed {
     pub answer: Answer,
     pub totals: Totals,
     pub processor: Processor,
-}
-
-// The processor of a sweep with no tick taken.
-fn begun(mode: u8, azimuth: u16) -> Processor
-    ensures { λ r. ⌜ r ≡ runningProcessor mode azimuth (record { flags = []; values = [] }) ⌝ }
-{
-    Processor {
-        mode,
-        azimuth,
-        taken: 0,
-        front: no_front(),
-        recent: [0u8; 256],
-        machine: empty_machine(),
-    }
-}
-
-// The processor with no sweep open.
-pub fn idle() -> Processor
-    ensures { λ r. ⌜ r ≡ idleProcessor ⌝ }
-{
-    begun(0, 0)
 }
 
 // An answer beside the processor of a sweep with no tick taken.
@@ -112,36 +77,6 @@ fn no_take(p: Processor, number: u8) -> Taken
     }
 }
 
-// Where a piece, or the zeros past the end, begin: at the start of a buffer.
-pub fn progress_of(p: Processor) -> Progress
-    ensures { λ r. ⌜ r ≡ record { front = p .front; machine = p .machine; at = 0 } ⌝ }
-{
-    let front = p.front;
-    let machine = p.machine;
-    Progress {
-        front,
-        machine,
-        at: 0,
-    }
-}
-
-// The processor after a piece of n ticks.
-fn moved(p: Processor, y: Progress, recent: [u8; 256], n: u32) -> Processor
-    requires { ⌜ p .taken + n ≤ sweepLimit ⌝ }
-    ensures { λ r. ⌜ r ≡ record { mode = p .mode; azimuth = p .azimuth; taken = p .taken + n; front = y .front; recent = recent; machine = y .machine } ⌝ }
-{
-    let front = y.front;
-    let machine = y.machine;
-    Processor {
-        mode: p.mode,
-        azimuth: p.azimuth,
-        taken: p.taken + n,
-        front,
-        recent,
-        machine,
-    }
-}
-
 // A take that is carried out.
 fn take_piece(p: Processor, flags: &[u8], values: &[u8], out: &mut [u8]) -> Taken
     requires { ⌜ takeAnswer (ltb 0 (p .mode)) (p .taken) (now flags) (now values) (length (now out)) ≡ accepted ⌝ }
@@ -150,9 +85,10 @@ fn take_piece(p: Processor, flags: &[u8], values: &[u8], out: &mut [u8]) -> Take
     let mut recent = p.recent;
     let y = feed(progress_of(p), &recent, p.taken, flags, values, out);
     keep(&mut recent, values);
+    let taken = p.taken + flags.len() as u32;
     Taken {
         answer: Answer::Accepted(y.at / 18),
-        processor: moved(p, y, recent, flags.len() as u32),
+        processor: moved(p, y, recent, taken),
     }
 }
 
@@ -166,27 +102,6 @@ pub fn take(p: Processor, flags: &[u8], values: &[u8], out: &mut [u8]) -> Taken
         return no_take(p, number);
     }
     take_piece(p, flags, values, out)
-}
-
-// Whether these flags, behind `base` ticks, change nothing but the count of ticks and the kept values: no flag is set, no word has a bit, no reply becomes due.
-pub fn is_quiet(f: Front, first: Place, base: u32, flags: &[u8]) -> bool
-    ensures { λ r. ⌜ r ≡ quiet f first base (now (flags .entry)) ⌝ }
-{
-    let more = flags.len();
-    if 4096 < more {
-        return false;
-    }
-    let t = base as usize + more;
-    if 32768 < t {
-        return false;
-    }
-    if !has_no_flag(flags) {
-        return false;
-    }
-    if !is_blank(f) {
-        return false;
-    }
-    none_due(first, t as u32)
 }
 
 // The totals, from the machine's counts.
@@ -233,10 +148,9 @@ fn no_close(p: Processor, number: u8) -> Closed
 
 // What a close answers after the zeros past the end.
 fn closed_after(y: Progress) -> Closed
-    ensures { λ r. ⌜ r ≡ record { answer = Accepted (y .at / 18); totals = totalsFrom (y .machine .counts); processor = idleProcessor } ⌝ }
+    ensures { λ r. ⌜ r ≡ record { answer = Accepted (y .at / 18); totals = totalsFrom (y .counts); processor = idleProcessor } ⌝ }
 {
-    let end = y.machine;
-    let counts = end.counts;
+    let counts = y.counts;
     Closed {
         answer: Answer::Accepted(y.at / 18),
         totals: totals_of(counts),

@@ -14,16 +14,16 @@ use Rattle.rules.specs.Samples.{Trace, bad, pieceLimit, sweepLimit}
 use Rattle.rules.specs.Buffers.{over, over-at}
 use Rattle.rules.specs.Machine.{final}
 use Rattle.rules.specs.Records.{records, replies}
-use Rattle.rules.specs.Calls.{Answer as Verdict, accepted, refused, openAnswer, handed, rest}
+use Rattle.rules.specs.Calls.{Answer, accepted, refused, openAnswer, handed, rest}
 use Rattle.rules.proofs.Truth.{and-left, and-right}
 use Rattle.rules.proofs.Joining.{handed-rest, records-append, records-length}
 use Rattle.rules.proofs.HandingOut.{rest-most}
 use Rattle.sweep.specs.declared.Opened.{Opened}
-use Rattle.sweep.specs.State.{running, runningProcessor, processorOf, Made}
+use Rattle.processor.specs.State.{running, runningProcessor, processorOf, Made}
 use Rattle.sweep.specs.Post.{openOf}
 use Rattle.rules.proofs.Answers.{standard-allowed}
 use Rattle.whole.specs.declared.Reached.{Reached}
-use Rattle.verdicts.specs.Whole.{wholeRoom, wholeAnswer}
+use Rattle.refusals.specs.Whole.{wholeRoom, wholeAnswer}
 use Rattle.whole.specs.Post.{answerOf, recordsOf, totalsOf, WholePost, Taken, TakeAllPost, CloseAtPost}
 use Rattle.whole.proofs.Taking.{or-left, or-right, over-more, handed-most}
 
@@ -34,18 +34,18 @@ pub whole-refused : (mode azimuth : ℕ) (T : Trace) (piece : ℕ) (b c : List �
 whole-refused mode azimuth T piece b c n v z small =
     let m : 4294967295 - (n - 1) ≡ 4294967296 - n = omega (arith, z, small) in
     record {
-      result = m ∙ ap (λ (x : Verdict). answerOf x T) (sym v);
-      recordBytes = ap (λ (x : Verdict). recordsOf x T b) (sym v);
-      totalBytes = ap (λ (x : Verdict). totalsOf x T c) (sym v);
+      result = m ∙ ap (λ (x : Answer). answerOf x T) (sym v);
+      recordBytes = ap (λ (x : Answer). recordsOf x T b) (sym v);
+      totalBytes = ap (λ (x : Answer). totalsOf x T c) (sym v);
     }
 
 -- ---- no refusal
 
-record Passed (b : Bool) (v : Verdict) : Type 0 where
+record Passed (b : Bool) (v : Answer) : Type 0 where
   not-held : b ≡ false
   others : v ≡ accepted
 
-passed : (b : Bool) (k : ℕ) (v : Verdict) → cond b (refused k) v ≡ accepted → Passed b v
+passed : (b : Bool) (k : ℕ) (v : Answer) → cond b (refused k) v ≡ accepted → Passed b v
 passed true k v e = absurd (let z : _≡_ {A = ℕ} 0 1 = cc in omega arith)
 passed false k v e = record { not-held = refl; others = e }
 
@@ -60,7 +60,7 @@ pub record Clear (mode azimuth : ℕ) (T : Trace) (piece : ℕ) (b c : List ℕ)
   pub room : wholeRoom (length (T .flags)) ≤ length b
   pub totals-room : 12 ≤ length c
   pub good : any bad (T .flags) ≡ false
-  pub verdict : wholeAnswer mode azimuth T piece (length b) (length c) ≡ accepted
+  pub is-accepted : wholeAnswer mode azimuth T piece (length b) (length c) ≡ accepted
 
 pub clear : (mode azimuth : ℕ) (T : Trace) (piece : ℕ) (b c : List ℕ) → wholeAnswer mode azimuth T piece (length b) (length c) ≡ accepted → Clear mode azimuth T piece b c
 unfolding wholeAnswer
@@ -99,7 +99,7 @@ clear mode azimuth T piece b c e =
       room = ltb-false (length b) (wholeRoom n) (or-left (ltb (length b) (wholeRoom n)) (ltb (length c) 12) (c7 .not-held));
       totals-room = ltb-false (length c) 12 (or-right (ltb (length b) (wholeRoom n)) (ltb (length c) 12) (c7 .not-held));
       good = c8 .not-held;
-      verdict = e;
+      is-accepted = e;
     }
 
 -- the processor of the opening
@@ -141,11 +141,11 @@ module _ (mode azimuth : ℕ) (T : Trace) (piece : ℕ) (b c : List ℕ) (ok : C
   whole-accepted =
       let m : n % 65536 ≡ n = omega (arith, few) in
       record {
-        result = m ∙ count ∙ ap (λ (x : Verdict). answerOf x T) (sym (ok .verdict));
+        result = m ∙ count ∙ ap (λ (x : Answer). answerOf x T) (sym (ok .is-accepted));
         recordBytes =
             end .recordBytes mode azimuth T made room ∙ ap (over-at (records R) (r .at)) (done .buffer)
             ∙ over-more (records H) (records R) b (r .at) (done .place ∙ sym (records-length H)) (omega (arith, room, same))
             ∙ ap (λ (l : List ℕ). over l b) (sym (records-append H R) ∙ ap records (handed-rest standard standard-allowed T))
-            ∙ ap (λ (x : Verdict). recordsOf x T b) (sym (ok .verdict));
-        totalBytes = end .totalBytes mode azimuth T made room ∙ ap (λ (x : Verdict). totalsOf x T c) (sym (ok .verdict));
+            ∙ ap (λ (x : Answer). recordsOf x T b) (sym (ok .is-accepted));
+        totalBytes = end .totalBytes mode azimuth T made room ∙ ap (λ (x : Answer). totalsOf x T c) (sym (ok .is-accepted));
       }

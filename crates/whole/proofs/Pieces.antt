@@ -4,7 +4,7 @@ use native.Mathlib.Omega.{arith}
 use mathlib.Core.Path.{_≡_, refl, sym, ap, ap₂, _∙_, subst}
 use mathlib.Core.Bool.{Bool, true, false}
 use mathlib.Core.List.{List, [], _++_, append-assoc, append-nil}
-use lib.ListN.{length, take, drop, length-append, length-drop, drop-of-length-le}
+use lib.ListN.{length, getD, take, drop, length-append, length-drop, drop-of-length-le}
 use lib.Seq.{drop-drop, take-all}
 use borrow.Rule.Slice.PartMut.{midOf, postOf, putMid}
 use Rattle.rules.specs.declared.Reply.{Reply}
@@ -17,15 +17,17 @@ use Rattle.rules.specs.Calls.{accepted, fresh}
 use Rattle.rules.proofs.HandingOut.{fresh-most}
 use Rattle.sweep.specs.declared.Answer.{Answer}
 use Rattle.sweep.specs.declared.Answer.the-variants.{Accepted, Refused}
-use Rattle.sweep.specs.declared.Processor.{Processor}
-use Rattle.blocks.specs.declared.Progress.{Progress}
-use Rattle.sweep.specs.State.{running, runningProcessor, processorOf, Made}
-use Rattle.sweep.specs.Post.{takeVerdict, quiet}
-use Rattle.blocks.specs.Steps.{Fed}
+use Rattle.processor.specs.declared.Processor.{Processor}
+use Rattle.processor.specs.declared.Progress.{Progress}
+use Rattle.processor.specs.State.{running, runningProcessor, processorOf, Made}
+use Rattle.sweep.specs.Post.{takeAnswerAt}
+use Rattle.blocks.specs.Steps.{quiet, Fed}
+use Rattle.places.specs.Places.{idle}
+use Rattle.processor.specs.Arrays.{machineAt, processorAt}
 use Rattle.pieces.specs.Feeding.{Begins, FeedPost}
 use Rattle.front.specs.Post.{KeepPost}
 use Rattle.rules.proofs.Answers.{took}
-use Rattle.sweep.proofs.Operations.{mode-of, azimuth-of, taken-of, front-of, recent-of, machine-of}
+use Rattle.processor.proofs.ProcessorLaws.{mode-of, azimuth-of, taken-of, front-of, recent-of, machine-of}
 use Rattle.sweep.proofs.Resting.{quiet-rests}
 use Rattle.blocks.proofs.Working.{over-nil}
 use Rattle.whole.specs.declared.Reached.{Reached}
@@ -54,10 +56,6 @@ over-start : (l b : List ℕ) → over-at l 0 b ≡ over l b
 unfolding over over-at
 over-start l b = ap (λ (n : ℕ). l ++ drop n b) {x = 0 + length l} {y = length l} (omega arith)
 
--- the processor that p has become, how far it came, with kept values and a count of ticks
-abbrev pub processorAt : Processor → Progress → List ℕ → ℕ → Processor
-processorAt p y recent n = record { mode = p .mode; azimuth = p .azimuth; taken = n; front = y .front; recent = recent; machine = y .machine }
-
 -- ---- a piece, from the processor of the trace before
 
 -- the piece P behind the trace T, its records from place at of the buffer on
@@ -68,7 +66,7 @@ pub record Reaches (mode azimuth : ℕ) (T P : Trace) (at : ℕ) (b : List ℕ) 
 
 pub record TakesAt (p : Processor) (P : Trace) (at : ℕ) (b : List ℕ) (r : Reached) (b′ : List ℕ) : Type 0 where
   pub inside : r .at ≤ length b
-  pub result : (mode azimuth : ℕ) (T : Trace) → Made (running mode azimuth T) p → takeVerdict (running mode azimuth T) P (length b - at) ≡ accepted → Reaches mode azimuth T P at b r b′
+  pub result : (mode azimuth : ℕ) (T : Trace) → Made (running mode azimuth T) p → takeAnswerAt (running mode azimuth T) P (length b - at) ≡ accepted → Reaches mode azimuth T P at b r b′
 
 module _ (p : Processor) (o : Progress) (recent : List ℕ) (base : ℕ) (P : Trace) (at : ℕ) (b : List ℕ) (here : at ≤ length b) (bytes : All (λ v. v ≤ 255) (P .values))
     (n : ℕ) (ticks : n ≡ base + length (P .flags)) (kept : List ℕ) (keeps : KeepPost recent (P .values) kept) where
@@ -91,9 +89,9 @@ module _ (p : Processor) (o : Progress) (recent : List ℕ) (base : ℕ) (P : Tr
           ∙ ap (λ (y : List ℕ). take at b ++ y) (append-nil (over (records (fresh standard T P)) (drop at b)))
           ∙ over-rest (records (fresh standard T P)) at b
 
-    begins : (mode azimuth : ℕ) (T : Trace) → Made (running mode azimuth T) q → takeVerdict (running mode azimuth T) P (length b - at) ≡ accepted
+    begins : (mode azimuth : ℕ) (T : Trace) → Made (running mode azimuth T) q → takeAnswerAt (running mode azimuth T) P (length b - at) ≡ accepted
         → Begins T o recent base (P .flags) (P .values) (drop at b)
-    unfolding processorOf takeVerdict q
+    unfolding processorOf takeAnswerAt q
     begins mode azimuth T m v =
         let is = m .is in
         let t = took true (length (T .flags)) (P .flags) (P .values) (length b - at) v in
@@ -136,17 +134,17 @@ module _ (p : Processor) (o : Progress) (recent : List ℕ) (base : ℕ) (P : Tr
         }
 
   -- a piece that finds nothing is taken in place
-  pub piece-quiet : length (P .flags) ≡ length (P .values) → quiet (o .front) (o .machine .places .p0) base (P .flags) ≡ true
+  pub piece-quiet : length (P .flags) ≡ length (P .values) → quiet (o .front) (getD (o .places) 0 idle) base (P .flags) ≡ true
       → TakesAt q P at b (record { processor = processorAt p o kept n; at = at }) b
   unfolding processorOf q
   piece-quiet alike is =
       record {
         inside = here;
         result = λ mode azimuth T m v.
-            let w = quiet-rests (o .front) (o .machine .places .p0) base (P .flags) is q refl refl refl mode azimuth T (P .values) m alike bytes in
+            let w = quiet-rests (o .front) (getD (o .places) 0 idle) base (P .flags) is q refl refl refl mode azimuth T (P .values) m alike bytes in
             let k = keeps .result (T .values) (recent-of mode azimuth T q (m .is)) in
             record {
-              processor = (λ i. record { mode = p .mode; azimuth = p .azimuth; taken = ticks i; front = o .front; recent = k i; machine = o .machine }) ∙ w .processor;
+              processor = (λ i. record { mode = p .mode; azimuth = p .azimuth; taken = ticks i; front = o .front; recent = k i; machine = machineAt o }) ∙ w .processor;
               place = omega (arith, ap length (w .none-due));
               buffer = sym (ap (λ (l : List Reply). over-at (records l) at b) (w .none-due) ∙ over-nil at b);
             };

@@ -17,24 +17,27 @@ use Rattle.rules.specs.Samples.{Trace, _⧺_, bad, pieceLimit, sweepLimit}
 use Rattle.rules.specs.Buffers.{over, over-at}
 use Rattle.rules.specs.Machine.{after}
 use Rattle.rules.specs.Records.{records, totals}
-use Rattle.rules.specs.Calls.{Answer as Verdict, accepted, takeAnswer, closeAnswer, takeRoom, closeRoom, handed, fresh, rest}
+use Rattle.rules.specs.Calls.{Answer, accepted, takeAnswer, closeAnswer, takeRoom, closeRoom, handed, fresh, rest}
 use Rattle.rules.proofs.Buffers.{over-at-more}
 use Rattle.rules.proofs.Joining.{handed-fresh, handed-done, records-append, records-length}
 use Rattle.rules.proofs.HandingOut.{fresh-most, rest-most}
 use Rattle.frames.specs.Writing.{totalsBytes}
 use Rattle.sweep.specs.declared.Answer.the-variants.{Accepted, Refused}
-use Rattle.sweep.specs.declared.Processor.{Processor}
+use Rattle.processor.specs.declared.Processor.{Processor}
 use Rattle.sweep.specs.declared.Closed.{Closed}
-use Rattle.blocks.specs.declared.Progress.{Progress}
-use Rattle.sweep.specs.State.{running, runningProcessor, processorOf, Made}
-use Rattle.sweep.specs.Post.{takeVerdict, closeVerdict, closeAs, closeBufferAs, quiet, ClosePost}
+use Rattle.places.specs.Places.{idle}
+use Rattle.processor.specs.declared.Progress.{Progress}
+use Rattle.processor.specs.Arrays.{machineAt, processorAt, progressOf}
+use Rattle.processor.specs.State.{running, runningProcessor, processorOf, Made}
+use Rattle.sweep.specs.Post.{takeAnswerAt, closeAnswerAt, closeAs, closeBufferAs, ClosePost}
+use Rattle.blocks.specs.Steps.{quiet}
 use Rattle.pieces.specs.Feeding.{FeedPost}
 use Rattle.front.specs.Post.{KeepPost}
 use Rattle.rules.proofs.Answers.{standard-allowed}
-use Rattle.sweep.proofs.Operations.{mode-of, azimuth-of, front-of, recent-of, machine-of}
+use Rattle.processor.proofs.ProcessorLaws.{mode-of, azimuth-of, front-of, recent-of, machine-of}
 use Rattle.whole.specs.declared.Reached.{Reached}
 use Rattle.whole.specs.Post.{arrivedAt, Taken, Takes, TakeAllPost, CloseAtPost}
-use Rattle.whole.proofs.Pieces.{isRefused, countIn, over-rest, mid-is, post-is, processorAt, Reaches, TakesAt, q, piece-fed, piece-quiet}
+use Rattle.whole.proofs.Pieces.{isRefused, countIn, over-rest, mid-is, post-is, Reaches, TakesAt, q, piece-fed, piece-quiet}
 
 -- ---- lists
 
@@ -122,7 +125,7 @@ pub record Takings (p : Processor) (T : Trace) (piece : ℕ) (b₀ : List ℕ) (
 
 module _ (p : Processor) (T : Trace) (piece : ℕ) (b₀ : List ℕ) (alike : length (T .flags) ≡ length (T .values)) where
   -- before the first piece
-  pub takings-start : (y : Progress) → y ≡ record { front = p .front; machine = p .machine; at = 0 } → Takings p T piece b₀ y (p .recent) 0 0 b₀
+  pub takings-start : (y : Progress) → y ≡ progressOf p → Takings p T piece b₀ y (p .recent) 0 0 b₀
   unfolding over records runningProcessor
   takings-start y is =
       record {
@@ -135,7 +138,7 @@ module _ (p : Processor) (T : Trace) (piece : ℕ) (b₀ : List ℕ) (alike : le
             let e2 = azimuth-of mode azimuth nothing p e in
             let e4 = ap (λ (z : Progress). z .front) is ∙ front-of mode azimuth nothing p e in
             let e5 = recent-of mode azimuth nothing p e in
-            let e6 = ap (λ (z : Progress). z .machine) is ∙ machine-of mode azimuth nothing p e in
+            let e6 = ap machineAt is ∙ machine-of mode azimuth nothing p e in
             record {
               processor = λ i. record { mode = e1 i; azimuth = e2 i; taken = 0; front = e4 i; recent = e5 i; machine = e6 i };
               place = omega (arith, ap length none-due);
@@ -177,8 +180,8 @@ module _ (p : Processor) (T : Trace) (piece : ℕ) (b₀ : List ℕ) (alike : le
         room : takeRoom (length (between i end T .flags)) ≤ length b - at
         room = omega (arith, size-P, size-i, before .place, handed-most (upTo i T), h .size, t .room, here, h .reach, more, step)
 
-        accept : takeVerdict (running mode azimuth (upTo i T)) (between i end T) (length b - at) ≡ accepted
-        unfolding takeVerdict takeAnswer
+        accept : takeAnswerAt (running mode azimuth (upTo i T)) (between i end T) (length b - at) ≡ accepted
+        unfolding takeAnswerAt takeAnswer
         accept =
             rw (
               eq-eqb (length (between i end T .flags)) (length (between i end T .values)) alike-P,
@@ -224,16 +227,16 @@ module _ (p : Processor) (T : Trace) (piece : ℕ) (b₀ : List ℕ) (alike : le
 
       pub takings-fed : (z : Progress) (m′ : List ℕ) (to : ℕ) → FeedPost y recent i (between i end T .flags) (between i end T .values) (midOf at (length b - at) b) z m′
           → to ≡ at + 18 * min (z .at / 18) ((length b - at) / 18) → length (putMid at (length b - at) b m′) ≡ length b
-          → Takings p T piece b₀ (record { front = z .front; machine = z .machine; at = 0 }) kept to end (putMid at (length b - at) b m′)
+          → Takings p T piece b₀ (record { front = z .front; places = z .places; counts = z .counts; at = 0 }) kept to end (putMid at (length b - at) b m′)
       unfolding q
       takings-fed z m′ to post e l =
-          takings-next (record { front = z .front; machine = z .machine; at = 0 }) kept to (putMid at (length b - at) b m′) refl
+          takings-next (record { front = z .front; places = z .places; counts = z .counts; at = 0 }) kept to (putMid at (length b - at) b m′) refl
           (piece-fed p y recent i (between i end T) at b inside-b bytes-P end ticks kept keeps (h .start) z m′ post to e) l
 
-      pub takings-quiet : (first : Place) (r : Bool) → first ≡ y .machine .places .p0 → r ≡ quiet (y .front) first i (between i end T .flags) → r ≡ true → Takings p T piece b₀ y kept at end b
+      pub takings-quiet : (first : Place) (r : Bool) → first ≡ getD (y .places) 0 idle → r ≡ quiet (y .front) first i (between i end T .flags) → r ≡ true → Takings p T piece b₀ y kept at end b
       unfolding q
       takings-quiet first r f e is =
-          let k : quiet (y .front) (y .machine .places .p0) i (between i end T .flags) ≡ true =
+          let k : quiet (y .front) (getD (y .places) 0 idle) i (between i end T .flags) ≡ true =
           ap (λ (x : Place). quiet (y .front) x i (between i end T .flags)) (sym f) ∙ sym e ∙ is in
           takings-next y kept at b (h .start) (piece-quiet p y recent i (between i end T) at b inside-b bytes-P end ticks kept keeps alike-P k) refl
 
@@ -253,19 +256,19 @@ module _ (p : Processor) (T : Trace) (piece : ℕ) (b₀ : List ℕ) (alike : le
 
 module _ (p : Processor) (at : ℕ) (b : List ℕ) (here : at ≤ length b) (x : Closed) (m′ : List ℕ) (post : ClosePost p (midOf at (length b - at) b) x m′) where
   module _ (mode azimuth : ℕ) (T : Trace) (m : Made (running mode azimuth T) p) (room : 144 ≤ length b - at) where
-    verdict : closeVerdict (running mode azimuth T) (length (midOf at (length b - at) b)) ≡ accepted
-    unfolding closeVerdict closeAnswer
-    verdict =
+    is-accepted : closeAnswerAt (running mode azimuth T) (length (midOf at (length b - at) b)) ≡ accepted
+    unfolding closeAnswerAt closeAnswer
+    is-accepted =
         let n : length (midOf at (length b - at) b) ≡ length b - at = ap length (mid-is at b) ∙ length-drop at b in
         rw (le-ltb (length (midOf at (length b - at) b)) closeRoom (omega (arith, n)))
 
     is : x ≡ closeAs accepted (running mode azimuth T)
-    is = post .result (running mode azimuth T) m ∙ ap (λ (v : Verdict). closeAs v (running mode azimuth T)) verdict
+    is = post .result (running mode azimuth T) m ∙ ap (λ (v : Answer). closeAs v (running mode azimuth T)) is-accepted
 
     records-are : putMid at (length b - at) b m′ ≡ over-at (records (rest standard T)) at b
     records-are =
         ap₂ (λ (y z : List ℕ). take at b ++ (y ++ z))
-        (post .buffer (running mode azimuth T) m ∙ ap (λ (v : Verdict). closeBufferAs v (running mode azimuth T) (midOf at (length b - at) b)) verdict ∙ ap (over (records (rest standard T))) (mid-is at b))
+        (post .buffer (running mode azimuth T) m ∙ ap (λ (v : Answer). closeBufferAs v (running mode azimuth T) (midOf at (length b - at) b)) is-accepted ∙ ap (over (records (rest standard T))) (mid-is at b))
         (post-is at b here)
         ∙ ap (λ (y : List ℕ). take at b ++ y) (append-nil (over (records (rest standard T)) (drop at b)))
         ∙ over-rest (records (rest standard T)) at b

@@ -10,24 +10,29 @@ use Rattle.rules.specs.Samples.{Trace, bad, pieceLimit, sweepLimit}
 use Rattle.rules.specs.Buffers.{over, over-at}
 use Rattle.rules.specs.Machine.{final}
 use Rattle.rules.specs.Records.{records, replies, totals}
-use Rattle.rules.specs.Calls.{Answer as Verdict, accepted, refused, handed, rest}
+use Rattle.rules.specs.Calls.{Answer, accepted, refused, handed, rest}
 use Rattle.frames.specs.Writing.{totalsBytes}
-use Rattle.sweep.specs.declared.Processor.{Processor}
-use Rattle.sweep.specs.State.{running, runningProcessor, Made}
-use Rattle.blocks.specs.declared.Progress.{Progress}
-use Rattle.verdicts.specs.Whole.{wholeRoom, wholeAnswer}
+use Rattle.processor.specs.declared.Processor.{Processor}
+use Rattle.processor.specs.State.{running, runningProcessor, Made}
+use Rattle.processor.specs.declared.Progress.{Progress}
+use Rattle.processor.specs.Arrays.{processorAt}
+use Rattle.refusals.specs.Whole.{wholeRoom, wholeAnswer}
 use Rattle.whole.specs.declared.Reached.{Reached}
 
+-- the trace that a caller lends
+abbrev pub lent : List ℕ → List ℕ → Trace
+lent flags values = record { flags = flags; values = values }
+
 -- the count of replies, or minus the number in 32 bits
-abbrev pub answerOf : Verdict → Trace → ℕ
+abbrev pub answerOf : Answer → Trace → ℕ
 answerOf accepted T = length (replies (final standard T))
 answerOf (refused k) T = 2 ^ 32 - k
 
-abbrev pub recordsOf : Verdict → Trace → List ℕ → List ℕ
+abbrev pub recordsOf : Answer → Trace → List ℕ → List ℕ
 recordsOf accepted T b = over (records (replies (final standard T))) b
 recordsOf (refused k) T b = b
 
-abbrev pub totalsOf : Verdict → Trace → List ℕ → List ℕ
+abbrev pub totalsOf : Answer → Trace → List ℕ → List ℕ
 totalsOf accepted T b = over (totalsBytes (totals (final standard T))) b
 totalsOf (refused k) T b = b
 
@@ -41,7 +46,7 @@ pub record WholePost (mode azimuth : ℕ) (T : Trace) (piece : ℕ) (b c : List 
 -- what p has become after n ticks
 abbrev pub arrivedAt : Processor → Progress → List ℕ → ℕ → ℕ → Reached
 arrivedAt p y recent n at =
-    record { processor = record { mode = p .mode; azimuth = p .azimuth; taken = n; front = y .front; recent = recent; machine = y .machine }; at = at }
+    record { processor = processorAt p y recent n; at = at }
 
 -- all of T, from the processor of its opening on; what is due is at the start of the buffer
 pub record Taken (mode azimuth : ℕ) (T : Trace) (b : List ℕ) (r : Reached) (b′ : List ℕ) : Type 0 where

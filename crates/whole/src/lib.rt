@@ -1,25 +1,27 @@
 // A whole sweep in one call, on numbers and byte buffers, for a program in C: opened, taken in pieces, closed.
 ghost use Prim.Native.Nat.{_+_, _-_, _*_, _/_, _≤_, _<_, min};
 ghost use mathlib.Core.Path.{_≡_};
-ghost use lib.ListN.{length};
-ghost use Rattle.verdicts.specs.Whole.{wholeAnswer};
-ghost use Rattle.whole.specs.Post.{arrivedAt, TakeAllPost, CloseAtPost, WholePost};
+ghost use lib.ListN.{length, getD};
+ghost use Rattle.places.specs.Places.{idle};
+ghost use Rattle.refusals.specs.Whole.{wholeAnswer};
+ghost use Rattle.whole.specs.Post.{lent, arrivedAt, TakeAllPost, CloseAtPost, WholePost};
 ghost use Rattle.rules.specs.Calls.{accepted};
 ghost use Rattle.rules.specs.Buffers.{over};
 ghost use Rattle.frames.specs.Writing.{totalsBytes};
-use blocks::Progress;
+use blocks::is_quiet;
 use frames::totals_bytes;
 use front::values::keep;
 use pieces::feed;
+use processor::Processor;
+use processor::Progress;
+use processor::moved;
+use processor::progress_of;
+use refusals::whole::whole_refusal;
 use rules::Place;
 use rules::Totals;
 use sweep::Answer;
-use sweep::Processor;
 use sweep::close;
-use sweep::is_quiet;
 use sweep::open;
-use sweep::progress_of;
-use verdicts::whole::whole_refusal;
 
 // The processor after some pieces, and the place in the buffer behind the last record.
 pub struct Reached {
@@ -46,28 +48,18 @@ fn behind(at: usize, more: usize, n: usize) -> usize
 
 // The first of the four decoders.
 fn first_place(y: Progress) -> Place
-    ensures { λ p. ⌜ p ≡ y .machine .places .p0 ⌝ }
+    ensures { λ p. ⌜ p ≡ getD (y .places) 0 idle ⌝ }
 {
-    let m = y.machine;
-    let f = m.places;
-    f.p0
+    let p = y.places;
+    p[0]
 }
 
 // The processor after n ticks, from how far the pieces have come, and the place in the buffer behind the last record.
 fn arrived(p: Processor, y: Progress, recent: [u8; 256], n: u32, at: usize) -> Reached
     ensures { λ r. ⌜ r ≡ arrivedAt p y recent n at ⌝ }
 {
-    let front = y.front;
-    let machine = y.machine;
     Reached {
-        processor: Processor {
-            mode: p.mode,
-            azimuth: p.azimuth,
-            taken: n,
-            front,
-            recent,
-            machine,
-        },
+        processor: moved(p, y, recent, n),
         at,
     }
 }
@@ -75,7 +67,7 @@ fn arrived(p: Processor, y: Progress, recent: [u8; 256], n: u32, at: usize) -> R
 // All pieces, of `piece` ticks each but for the last. A piece that finds nothing is taken in place.
 fn take_all(p: Processor, flags: &[u8], values: &[u8], piece: usize, out: &mut [u8]) -> Reached
     requires { ⌜ (length (now flags) ≡ length (now values)) × (1 ≤ piece) × (length (now flags) ≤ 32768) ⌝ }
-    ensures { λ r. ⌜ TakeAllPost p (record { flags = now (flags .entry); values = now (values .entry) }) piece (now (out .entry)) r (now (out .exit)) ⌝ }
+    ensures { λ r. ⌜ TakeAllPost p (lent (now (flags .entry)) (now (values .entry))) piece (now (out .entry)) r (now (out .exit)) ⌝ }
 {
     let n = flags.len();
     let mut y = progress_of(p);
@@ -89,7 +81,7 @@ fn take_all(p: Processor, flags: &[u8], values: &[u8], piece: usize, out: &mut [
             i = end;
             continue;
         }
-        let z = feed(
+        y = feed(
             y,
             &recent,
             i as u32,
@@ -98,8 +90,7 @@ fn take_all(p: Processor, flags: &[u8], values: &[u8], piece: usize, out: &mut [
             &mut out[at..],
         );
         keep(&mut recent, &values[i..end]);
-        at = behind(at, z.at, out.len());
-        y = z;
+        at = behind(at, y.at, out.len());
         y.at = 0;
         i = end;
     }
@@ -144,8 +135,8 @@ fn swept(
     out: &mut [u8],
     totals: &mut [u8],
 ) -> u32
-    requires { ⌜ wholeAnswer mode azimuth (record { flags = now flags; values = now values }) piece (length (now out)) (length (now totals)) ≡ accepted ⌝ }
-    ensures { λ r. ⌜ WholePost mode azimuth (record { flags = now (flags .entry); values = now (values .entry) }) piece (now (out .entry)) (now (totals .entry)) r (now (out .exit)) (now (totals .exit)) ⌝ }
+    requires { ⌜ wholeAnswer mode azimuth (lent (now flags) (now values)) piece (length (now out)) (length (now totals)) ≡ accepted ⌝ }
+    ensures { λ r. ⌜ WholePost mode azimuth (lent (now (flags .entry)) (now (values .entry))) piece (now (out .entry)) (now (totals .entry)) r (now (out .exit)) (now (totals .exit)) ⌝ }
 {
     let o = open(mode, azimuth);
     let p = o.processor;
@@ -171,7 +162,7 @@ pub extern "C" fn whole_sweep(
     out: &mut [u8],
     totals: &mut [u8],
 ) -> u32
-    ensures { λ r. ⌜ WholePost mode azimuth (record { flags = now (flags .entry); values = now (values .entry) }) piece (now (out .entry)) (now (totals .entry)) r (now (out .exit)) (now (totals .exit)) ⌝ }
+    ensures { λ r. ⌜ WholePost mode azimuth (lent (now (flags .entry)) (now (values .entry))) piece (now (out .entry)) (now (totals .entry)) r (now (out .exit)) (now (totals .exit)) ⌝ }
 {
     let number = whole_refusal(mode, azimuth, flags, values, piece, out, totals);
     if number != 0 {

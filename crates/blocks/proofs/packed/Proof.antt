@@ -1,15 +1,15 @@
-use Rattle.blocks.proofs.Feeding.{packed-all, packed-bare}
+use Rattle.blocks.proofs.Feeding.{packed-all, packed-flagless}
 use borrow.Author.Needs.{needs}
 use Rattle.blocks.proofs.packed.Statement.{statement}
 use Rattle.blocks.proofs.packed.Tie as tie
 
-bare-block-requires : tie.Need-bare-block-requires
-bare-block-requires c κs = search needs
+flagless-block-requires : tie.Need-flagless-block-requires
+flagless-block-requires c κs = search needs
 
 returns : tie.Need-returns
 returns c =
     let a = c .before .before .before .before .args in
-    packed-bare (a .flags .now) (a .o) (a .r) (c .before .before .if1 .taken) _ (c .before .bare-block .ensures) (c .if2 .taken)
+    packed-flagless (a .flags .now) (a .o) (a .r) (c .before .before .if1 .taken) _ (c .before .flagless-block .ensures) (c .if2 .taken)
 
 pack-requires : tie.Need-pack-requires
 pack-requires c κs = search needs
@@ -28,4 +28,4 @@ returns-3 c = search needs
 pub packed-spec : {M : Type 1} → statement M
 packed-spec =
     tie.close
-    (tie.spec bare-block-requires returns pack-requires returns-2 pack-part-requires returns-3)
+    (tie.spec flagless-block-requires returns pack-requires returns-2 pack-part-requires returns-3)

@@ -6,11 +6,8 @@ use borrow.Author.Needs.{needs}
 use Rattle.blocks.proofs.second_at.Statement.{statement}
 use Rattle.blocks.proofs.second_at.Tie as tie
 
-apart-requires : tie.Need-apart-requires
-apart-requires c κs = search needs
-
-add-w : tie.Need-add-w
-add-w c = search needs
+second-tick-requires : tie.Need-second-tick-requires
+second-tick-requires c κs = search needs
 
 second-main-requires : tie.Need-second-main-requires
 second-main-requires c κs = search needs
@@ -23,13 +20,15 @@ value-at-requires c κs = search needs
 
 returns : tie.Need-returns
 returns c =
+    let a = c .before .before .before .before .before .args in
+    let w = c .before .before .before .second-tick .ensures .0 in
     λ j. record {
-      tick = record { 0 = c .before .before .before .before .before .args .u .0 + c .before .before .before .apart .ensures .0 j };
-      main = c .before .second-main .ensures j;
-      value = (c .value-at .ensures ∙ ap (λ (d : ℕ). valueOf (c .before .before .before .before .before .args .recent .now) (c .before .before .before .before .before .args .base) (c .before .before .before .before .before .args .values .now) (c .before .before .before .before .before .args .u .0 + d + 1)) (c .before .before .before .apart .ensures .0)) j;
+      tick = record { 0 = w j };
+      main = c .before .before .second-main .ensures j;
+      value = (c .value-at .ensures ∙ ap (λ (d : ℕ). valueOf (a .recent .now) (a .base) (a .values .now) (d + 1)) w) j;
     }
 
 pub second-at-spec : {M : Type 1} → statement M
 second-at-spec =
     tie.close
-    (tie.spec apart-requires add-w second-main-requires add-value-at value-at-requires returns)
+    (tie.spec second-tick-requires second-main-requires add-value-at value-at-requires returns)

@@ -14,7 +14,7 @@ is-flagless-requires c κs = tt
 returns : tie.Need-returns
 returns c =
     let a = c .before .before .args in
-    and-no (flagless (a .x)) (blank (a .f) && noneDue (a .first) (a .t)) (sym (c .before .is-flagless .ensures) ∙ not-true _ (c .if1 .taken))
+    and-no (flagless (a .x)) (blank (a .f) && noneDue (a .first) (a .t .0)) (sym (c .before .is-flagless .ensures) ∙ not-true _ (c .if1 .taken))
 
 is-blank-requires : tie.Need-is-blank-requires
 is-blank-requires c κs = tt
@@ -22,8 +22,8 @@ is-blank-requires c κs = tt
 returns-2 : tie.Need-returns-2
 returns-2 c =
     let a = c .before .before .before .before .args in
-    and-then (flagless (a .x)) (blank (a .f) && noneDue (a .first) (a .t)) _ (sym (c .before .before .before .is-flagless .ensures) ∙ not-false _ (c .before .before .if1 .left))
-    (and-no (blank (a .f)) (noneDue (a .first) (a .t)) (sym (c .before .is-blank .ensures) ∙ not-true _ (c .if2 .taken)))
+    and-then (flagless (a .x)) (blank (a .f) && noneDue (a .first) (a .t .0)) _ (sym (c .before .before .before .is-flagless .ensures) ∙ not-false _ (c .before .before .if1 .left))
+    (and-no (blank (a .f)) (noneDue (a .first) (a .t .0)) (sym (c .before .is-blank .ensures) ∙ not-true _ (c .if2 .taken)))
 
 none-due-requires : tie.Need-none-due-requires
 none-due-requires c κs = tt
@@ -31,8 +31,8 @@ none-due-requires c κs = tt
 returns-3 : tie.Need-returns-3
 returns-3 c =
     let a = c .before .before .before .before .before .args in
-    and-then (flagless (a .x)) (blank (a .f) && noneDue (a .first) (a .t)) _ (sym (c .before .before .before .before .is-flagless .ensures) ∙ not-false _ (c .before .before .before .if1 .left))
-    (and-then (blank (a .f)) (noneDue (a .first) (a .t)) _ (sym (c .before .before .is-blank .ensures) ∙ not-false _ (c .before .if2 .left)) (c .none-due .ensures))
+    and-then (flagless (a .x)) (blank (a .f) && noneDue (a .first) (a .t .0)) _ (sym (c .before .before .before .before .is-flagless .ensures) ∙ not-false _ (c .before .before .before .if1 .left))
+    (and-then (blank (a .f)) (noneDue (a .first) (a .t .0)) _ (sym (c .before .before .is-blank .ensures) ∙ not-false _ (c .before .if2 .left)) (c .none-due .ensures))
 
 pub stays-spec : {M : Type 1} → statement M
 stays-spec =

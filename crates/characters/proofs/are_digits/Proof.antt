@@ -13,33 +13,34 @@ Inv-loop line n all₀ i₀ all i = Seen line n i all
 abbrev μ-loop : tie.MeasureT-loop
 μ-loop line n all₀ i₀ all i = n - i
 
--- src/lib.rt:56:5
 loop-holds : tie.Need-loop-holds Inv-loop μ-loop
-loop-holds c = seen-none (c .before .args .line .now) (c .before .args .n)
+loop-holds c =
+    let a = c .before .args in
+    seen-none (a .line .now) (a .n)
 
--- src/lib.rt:57:30
 shared-slice-read-is-digit : tie.Need-shared-slice-read-is-digit Inv-loop μ-loop
 shared-slice-read-is-digit c = omega (arith, c .before .before .before .before .pre)
 
--- src/lib.rt:57:21
 is-digit-requires : tie.Need-is-digit-requires Inv-loop μ-loop
 is-digit-requires c κs = tt
 
--- src/lib.rt:58:9
 add-i : tie.Need-add-i Inv-loop μ-loop
 add-i c = omega arith
 
--- src/lib.rt:56:5
 loop-less : tie.Need-loop-less Inv-loop μ-loop
 loop-less c = omega arith
 
--- src/lib.rt:56:5
 loop-again : tie.Need-loop-again Inv-loop μ-loop
-loop-again c = seen-next (c .before .before .before .before .before .args .line .now) (c .before .before .before .before .before .args .n) (c .before .before .before .loop .i) (c .before .before .before .loop .all) _ (omega arith) (omega (arith, c .before .before .before .before .before .pre)) (c .is-digit .ensures) (c .before .before .before .loop .inv)
+loop-again c =
+    let l = c .before .before .before .loop in
+    let a = c .before .before .before .before .before .args in
+    seen-next (a .line .now) (a .n) (l .i) (l .all) _ (omega arith) (omega (arith, c .before .before .before .before .before .pre)) (c .is-digit .ensures) (l .inv)
 
--- src/lib.rt:50:1
 returns : tie.Need-returns Inv-loop μ-loop
-returns c = seen-all (c .before .before .before .args .line .now) (c .before .before .before .args .n) (c .before .loop .i) (c .before .loop .all) (omega arith) (c .before .loop .inv)
+returns c =
+    let l = c .before .loop in
+    let a = c .before .before .before .args in
+    seen-all (a .line .now) (a .n) (l .i) (l .all) (omega arith) (l .inv)
 
 pub are-digits-spec : {M : Type 1} → statement M
 are-digits-spec =

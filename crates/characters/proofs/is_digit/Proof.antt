@@ -4,7 +4,6 @@ use Rattle.characters.proofs.is_digit.Tie as tie
 use Rattle.characters.proofs.is_digit.Reads as reads
 use Rattle.characters.proofs.is_digit.Lts as lts
 
--- src/lib.rt:43:1
 returns : tie.Need-returns
 returns c = digit-by-tests (c .args .c)
 

@@ -15,10 +15,14 @@ cover-mask-requires : tie.Need-cover-mask-requires
 cover-mask-requires c κs = search needs
 
 returns : tie.Need-returns
-returns c = idle-tells covers (c .before .before .args .t) (c .before .before .args .p) (c .enum-told .given .1)
+returns c =
+    let a = c .before .before .args in
+    idle-tells covers (a .t .0) (a .p) (c .enum-told .given .1)
 
 returns-2 : tie.Need-returns-2
-returns-2 c = cover-tells (c .before .before .before .before .before .args .t) (c .cover-mask .result) (c .before .before .before .before .before .args .p) _ (c .before .before .before .s .given .1) (c .cover-mask .ensures)
+returns-2 c =
+    let a = c .before .before .before .before .before .args in
+    cover-tells (a .t .0) (c .cover-mask .result) (a .p) _ (c .before .before .before .s .given .1) (c .cover-mask .ensures)
 
 pub cover-of-spec : {M : Type 1} → statement M
 cover-of-spec = tie.close (tie.spec enum-told enum-known-s cover-mask-requires returns returns-2)

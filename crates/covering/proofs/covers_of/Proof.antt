@@ -30,7 +30,12 @@ cover-of-requires-4 : tie.Need-cover-of-requires-4
 cover-of-requires-4 c κs = search needs
 
 returns : tie.Need-returns
-returns c = all-tell covers (c .before .before .before .before .before .before .before .before .args .t) (c .before .before .before .before .before .before .cover-of .result) (c .before .before .before .before .cover-of2 .result) (c .before .before .cover-of3 .result) (c .cover-of4 .result) (c .before .before .before .before .before .before .before .before .args .t1) (c .before .before .before .before .before .before .cover-of .ensures) (c .before .before .before .before .cover-of2 .ensures) (c .before .before .cover-of3 .ensures) (c .cover-of4 .ensures)
+returns c =
+    let coverof3 = c .before .before .cover-of3 in
+    let coverof2 = c .before .before .before .before .cover-of2 in
+    let coverof = c .before .before .before .before .before .before .cover-of in
+    let a = c .before .before .before .before .before .before .before .before .args in
+    all-tell covers (a .t .0) (coverof .result) (coverof2 .result) (coverof3 .result) (c .cover-of4 .result) (a .t1) (coverof .ensures) (coverof2 .ensures) (coverof3 .ensures) (c .cover-of4 .ensures)
 
 pub covers-of-spec : {M : Type 1} → statement M
 covers-of-spec =

@@ -15,10 +15,14 @@ phantom-mask-requires : tie.Need-phantom-mask-requires
 phantom-mask-requires c κs = search needs
 
 returns : tie.Need-returns
-returns c = idle-tells isPhantom (c .before .before .args .t) (c .before .before .args .p) (c .enum-told .given .1)
+returns c =
+    let a = c .before .before .args in
+    idle-tells isPhantom (a .t .0) (a .p) (c .enum-told .given .1)
 
 returns-2 : tie.Need-returns-2
-returns-2 c = risk-tells (c .before .before .before .before .before .before .args .t) (c .phantom-mask .result) (c .before .before .before .before .before .before .args .p) _ (c .before .before .before .before .s .given .1) (c .phantom-mask .ensures)
+returns-2 c =
+    let a = c .before .before .before .before .before .before .args in
+    risk-tells (a .t .0) (c .phantom-mask .result) (a .p) _ (c .before .before .before .before .s .given .1) (c .phantom-mask .ensures)
 
 pub risk-of-spec : {M : Type 1} → statement M
 risk-of-spec = tie.close (tie.spec enum-told enum-known-s phantom-mask-requires returns returns-2)

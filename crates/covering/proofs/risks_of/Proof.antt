@@ -30,7 +30,12 @@ risk-of-requires-4 : tie.Need-risk-of-requires-4
 risk-of-requires-4 c κs = search needs
 
 returns : tie.Need-returns
-returns c = all-tell isPhantom (c .before .before .before .before .before .before .before .before .args .t) (c .before .before .before .before .before .before .risk-of .result) (c .before .before .before .before .risk-of2 .result) (c .before .before .risk-of3 .result) (c .risk-of4 .result) (c .before .before .before .before .before .before .before .before .args .t1) (c .before .before .before .before .before .before .risk-of .ensures) (c .before .before .before .before .risk-of2 .ensures) (c .before .before .risk-of3 .ensures) (c .risk-of4 .ensures)
+returns c =
+    let riskof3 = c .before .before .risk-of3 in
+    let riskof2 = c .before .before .before .before .risk-of2 in
+    let riskof = c .before .before .before .before .before .before .risk-of in
+    let a = c .before .before .before .before .before .before .before .before .args in
+    all-tell isPhantom (a .t .0) (riskof .result) (riskof2 .result) (riskof3 .result) (c .risk-of4 .result) (a .t1) (riskof .ensures) (riskof2 .ensures) (riskof3 .ensures) (c .risk-of4 .ensures)
 
 pub risks-of-spec : {M : Type 1} → statement M
 risks-of-spec =

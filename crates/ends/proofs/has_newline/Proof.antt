@@ -12,33 +12,32 @@ Inv-loop input from seen₀ k₀ seen k = Noticed input from k seen
 abbrev μ-loop : tie.MeasureT-loop
 μ-loop input from seen₀ k₀ seen k = 32 - k
 
--- src/scan.rt:39:5
 loop-holds : tie.Need-loop-holds Inv-loop μ-loop
 loop-holds c = noticed-none (c .args .input .now) (c .args .from)
 
--- src/scan.rt:40:30
 add-seen : tie.Need-add-seen Inv-loop μ-loop
 add-seen c = omega arith
 
--- src/scan.rt:40:24
 shared-slice-read-seen : tie.Need-shared-slice-read-seen Inv-loop μ-loop
 shared-slice-read-seen c = omega (arith, c .before .before .before .pre)
 
--- src/scan.rt:41:9
 add-k : tie.Need-add-k Inv-loop μ-loop
 add-k c = omega arith
 
--- src/scan.rt:39:5
 loop-less : tie.Need-loop-less Inv-loop μ-loop
 loop-less c = omega arith
 
--- src/scan.rt:39:5
 loop-again : tie.Need-loop-again Inv-loop μ-loop
-loop-again c = noticed-next (c .before .before .before .args .input .now) (c .before .before .before .args .from) (c .before .before .loop .k) (c .before .before .loop .seen) (omega arith) (c .before .before .loop .inv)
+loop-again c =
+    let l = c .before .before .loop in
+    let a = c .before .before .before .args in
+    noticed-next (a .input .now) (a .from) (l .k) (l .seen) (omega arith) (c .before .before .before .pre) (l .inv)
 
--- src/scan.rt:33:1
 returns : tie.Need-returns Inv-loop μ-loop
-returns c = noticed-all (c .before .before .args .input .now) (c .before .before .args .from) (c .before .loop .k) (c .before .loop .seen) (omega arith) (c .before .loop .inv)
+returns c =
+    let l = c .before .loop in
+    let a = c .before .before .args in
+    noticed-all (a .input .now) (a .from) (l .k) (l .seen) (omega arith) (l .inv)
 
 pub has-newline-spec : {M : Type 1} → statement M
 has-newline-spec =

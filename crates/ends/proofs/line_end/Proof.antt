@@ -1,4 +1,4 @@
-use Rattle.ends.proofs.Newlines.{Looking, looking-start, found-newline, found-long, looking-next, looking-past}
+use Rattle.ends.proofs.Newlines.{Looking, passed-at, looking-start, found-newline, found-long, looking-next, looking-past}
 use native.Mathlib.Omega.{arith}
 use lib.ListN.{length}
 use Prim.Native.Nat.{_-_}
@@ -14,53 +14,59 @@ Inv-loop input from n i₀ left₀ i left = Looking input from i left
 abbrev μ-loop : tie.MeasureT-loop
 μ-loop input from n i₀ left₀ i left = length input - i
 
--- src/scan.rt:74:9
 passed-requires : tie.Need-passed-requires Inv-loop μ-loop
 passed-requires c κs = tt
 
--- src/scan.rt:75:34
 sub-left : tie.Need-sub-left Inv-loop μ-loop
-sub-left c = omega arith
+sub-left c =
+    let h = passed-at (c .before .before .args .input .now) (c .before .before .args .from) _ (c .passed .ensures) in
+    omega (arith, h .place)
 
--- src/scan.rt:75:27
 sub-left-2 : tie.Need-sub-left-2 Inv-loop μ-loop
-sub-left-2 c = omega arith
+sub-left-2 c =
+    let h = passed-at (c .before .before .args .input .now) (c .before .before .args .from) _ (c .passed .ensures) in
+    omega (arith, h .place, h .most)
 
--- src/scan.rt:76:5
 loop-holds : tie.Need-loop-holds Inv-loop μ-loop
-loop-holds c = looking-start (c .before .before .args .input .now) (c .before .before .args .from) _ (c .passed .ensures)
+loop-holds c =
+    let args = c .before .before .args in
+    looking-start (args .input .now) (args .from) _ (passed-at (args .input .now) (args .from) _ (c .passed .ensures))
 
--- src/scan.rt:77:17
 shared-slice-read-c : tie.Need-shared-slice-read-c Inv-loop μ-loop
 shared-slice-read-c c = omega arith
 
--- src/scan.rt:78:9
 add-i : tie.Need-add-i Inv-loop μ-loop
 add-i c = omega arith
 
--- src/scan.rt:79:9
 sub-left-3 : tie.Need-sub-left-3 Inv-loop μ-loop
 sub-left-3 c = omega (arith, c .before .before .loop .inv .some)
 
--- src/scan.rt:81:13
 returns : tie.Need-returns Inv-loop μ-loop
-returns c = found-newline (c .before .before .before .before .before .before .args .input .now) (c .before .before .before .before .before .before .args .from) (c .before .before .before .loop .i) (c .before .before .before .loop .left) (c .before .before .before .loop .inv) (omega arith) (c .if1 .taken)
+returns c =
+    let l = c .before .before .before .loop in
+    let a = c .before .before .before .before .before .before .args in
+    found-newline (a .input .now) (a .from) (l .i) (l .left) (l .inv) (omega arith) (c .if1 .taken)
 
--- src/scan.rt:84:13
 returns-2 : tie.Need-returns-2 Inv-loop μ-loop
-returns-2 c = found-long (c .before .before .before .before .before .before .before .args .input .now) (c .before .before .before .before .before .before .before .args .from) (c .before .before .before .before .loop .i) (c .before .before .before .before .loop .left) (c .before .before .before .before .loop .inv) (omega arith) (c .if2 .taken)
+returns-2 c =
+    let l = c .before .before .before .before .loop in
+    let a = c .before .before .before .before .before .before .before .args in
+    found-long (a .input .now) (a .from) (l .i) (l .left) (l .inv) (omega arith) (c .if2 .taken)
 
--- src/scan.rt:76:5
 loop-less : tie.Need-loop-less Inv-loop μ-loop
 loop-less c = omega arith
 
--- src/scan.rt:76:5
 loop-again : tie.Need-loop-again Inv-loop μ-loop
-loop-again c = looking-next (c .before .before .before .before .before .before .before .args .input .now) (c .before .before .before .before .before .before .before .args .from) (c .before .before .before .before .loop .i) (c .before .before .before .before .loop .left) (c .before .before .before .before .loop .inv) (omega arith) (c .before .if1 .left) (c .if2 .left)
+loop-again c =
+    let l = c .before .before .before .before .loop in
+    let a = c .before .before .before .before .before .before .before .args in
+    looking-next (a .input .now) (a .from) (l .i) (l .left) (l .inv) (omega arith) (c .before .if1 .left) (c .if2 .left)
 
--- src/scan.rt:70:1
 returns-3 : tie.Need-returns-3 Inv-loop μ-loop
-returns-3 c = looking-past (c .before .before .before .before .args .input .now) (c .before .before .before .before .args .from) (c .before .loop .i) (c .before .loop .left) (omega arith) (c .before .loop .inv)
+returns-3 c =
+    let l = c .before .loop in
+    let a = c .before .before .before .before .args in
+    looking-past (a .input .now) (a .from) (l .i) (l .left) (omega arith) (l .inv)
 
 pub line-end-spec : {M : Type 1} → statement M
 line-end-spec =

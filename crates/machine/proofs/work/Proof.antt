@@ -1,27 +1,30 @@
 -- `work` takes a piece block by block, and of each block the ticks to visit, lowest first.
-use Prim.Native.Nat.{ℕ, _+_, _-_}
+use Prim.Native.Nat.{ℕ, _+_, _-_, _<_}
 use native.Mathlib.Omega.{arith}
 use mathlib.Core.Path.{_≡_, refl, sym, ap, _∙_, subst}
 use mathlib.Core.List.{List}
 use lib.ListN.{length, getD, set}
 use borrow.Author.Tests.{eqb-true, not-true, not-false}
 use Rattle.rules.specs.declared.Place.{Place}
-use Rattle.rules.specs.declared.Places.{Places}
 use Rattle.rules.specs.declared.Pulse.{Pulse}
 use Rattle.rules.specs.Replies.{ended}
 use Rattle.places.specs.Places.{idle}
+use Rattle.firsts.specs.Ticks.{OpenedPost}
+use Rattle.marking.specs.Marks.{TwiceWord}
+use Rattle.marking.proofs.Marking.{twice-as}
 use Rattle.covering.proofs.Starting.{all-marked}
-use Rattle.settling.proofs.Dealing.{either, turns-did, turns-not, Dealt, deals-four, deals-one, deals-none}
-use Rattle.front.specs.Post.{bracketIn}
-use Rattle.blocks.specs.declared.Progress.{Progress}
-use Rattle.blocks.specs.Leaving.{machineIn}
+use Rattle.span.specs.Spans.{bracketIn}
+use Rattle.processor.specs.declared.Progress.{Progress}
+use Rattle.processor.specs.Arrays.{machineIn}
+use Rattle.blocks.specs.Steps.{secondIn}
 use Rattle.blocks.specs.Feeding.{BlocksPost}
 use Rattle.blocks.proofs.Blank.{all-three, both, due-over, stays-law}
 use Rattle.blocks.proofs.BlockLaws.{block-law}
 use Rattle.blocks.proofs.Feeding.{Feeding, feed-start, feed-next, feed-end}
-use Rattle.blocks.proofs.Standing.{second-low, second-as, Stood, stood-plain, stood-framed}
-use Rattle.blocks.proofs.Taking.{framed-shut, framed-opens, framed-as}
+use Rattle.blocks.proofs.Standing.{second-low, second-outcome, second-as, Stood, stood-plain, stood-bracketed}
+use Rattle.blocks.proofs.Taking.{bracketed-shut, bracketed-opens, bracketed-as}
 use Rattle.blocks.proofs.Working.{Working, work-start, work-over, work-less, work-taken, end-start, end-none, end-works, first-from}
+use Rattle.machine.proofs.Dealing.{either, turns-did, turns-not, Dealt, deals-four, deals-one, deals-none}
 use Rattle.machine.proofs.Handing.{Hands, hands-none, hands-more}
 use Rattle.machine.proofs.Turns.{openCount, turnsLeft, turn-taken, turn-over, turn-less, hand-less, four-places}
 use borrow.Author.Needs.{needs}
@@ -29,38 +32,38 @@ use Rattle.machine.proofs.work.Statement.{statement}
 use Rattle.machine.proofs.work.Tie as tie
 
 abbrev Inv-loop2 : tie.InvT-loop2
-Inv-loop2 recent base flags values out₀ n front places₀ counts₀ at₀ done r t s due on₀ risk₀ todo₀ from₀ out places counts at on risk todo from =
-    Working (machineIn places₀ counts₀) s r t recent base values at₀ out₀ out places on risk counts at todo from
+Inv-loop2 recent base flags values out₀ n front places₀ counts₀ at₀ done r taken t s due on₀ both₀ risk₀ todo₀ from₀ out places counts at on both risk todo from =
+    Working (machineIn places₀ counts₀) s r (t .0) recent base values at₀ out₀ out places on risk counts at todo from × TwiceWord on both
 
 abbrev μ-loop2 : tie.MeasureT-loop2
-μ-loop2 recent base flags values out₀ n front places₀ counts₀ at₀ done r t s due on₀ risk₀ todo₀ from₀ out places counts at on risk todo from =
+μ-loop2 recent base flags values out₀ n front places₀ counts₀ at₀ done r taken t s due on₀ both₀ risk₀ todo₀ from₀ out places counts at on both risk todo from =
     turnsLeft from places risk
 
 abbrev Inv-loop3 : tie.InvT-loop3
-Inv-loop3 recent base flags values out₀ n front places₀ counts at₀ done r t due todo from out places at =
-    Hands r t recent base values counts out₀ places₀ at₀ out places at
+Inv-loop3 recent base flags values out₀ n front places₀ counts at₀ done r taken t due both todo from out places at =
+    Hands r (t .0) recent base values counts out₀ places₀ at₀ out places at
 
 abbrev μ-loop3 : tie.MeasureT-loop3
-μ-loop3 recent base flags values out₀ n front places₀ counts at₀ done r t due todo from out places at =
+μ-loop3 recent base flags values out₀ n front places₀ counts at₀ done r taken t due both todo from out places at =
     openCount places
 
 abbrev Inv-loop : tie.InvT-loop
 Inv-loop recent base flags values out₀ n front₀ places₀ counts₀ at₀ done₀ out front places counts at done =
-    (length places ≡ 4) × Feeding (record { front = front₀; machine = machineIn places₀ counts₀; at = at₀ }) recent base flags values out₀ out (record { front = front; machine = machineIn places counts; at = at }) done
+    (length places ≡ 4) × Feeding (record { front = front₀; places = places₀; counts = counts₀; at = at₀ }) recent base flags values out₀ out (record { front = front; places = places; counts = counts; at = at }) done
 
 abbrev μ-loop : tie.MeasureT-loop
 μ-loop recent base flags values out₀ n front₀ places₀ counts₀ at₀ done₀ out front places counts at done =
     length flags - done
 
-array-of-requires : tie.Need-array-of-requires Inv-loop2 μ-loop2 Inv-loop3 μ-loop3 Inv-loop μ-loop
-array-of-requires c κs = search needs
+all-four-requires : tie.Need-all-four-requires Inv-loop2 μ-loop2 Inv-loop3 μ-loop3 Inv-loop μ-loop
+all-four-requires c κs = search needs
 
 loop-holds : tie.Need-loop-holds Inv-loop2 μ-loop2 Inv-loop3 μ-loop3 Inv-loop μ-loop
 loop-holds c =
-    let array-of = c .before .array-of in
+    let all-four = c .before .all-four in
     let args = c .before .before .before .before .before .before .before .args in (
-      ap (length {A = Place}) (array-of .ensures),
-      feed-start (record { front = args .o .front; machine = machineIn (array-of .result) (args .o .machine .counts); at = args .o .at }) (args .recent .now) (args .base) (args .flags .now) (args .values .now) (args .out .now),
+      all-four .ensures .1,
+      feed-start (record { front = args .o .front; places = all-four .result; counts = args .o .counts; at = args .o .at }) (args .recent .now) (args .base) (args .flags .now) (args .values .now) (args .out .now),
     )
 
 sub-block-length : tie.Need-sub-block-length Inv-loop2 μ-loop2 Inv-loop3 μ-loop3 Inv-loop μ-loop
@@ -76,11 +79,11 @@ packed-requires c κs = search needs
 add-done : tie.Need-add-done Inv-loop2 μ-loop2 Inv-loop3 μ-loop3 Inv-loop μ-loop
 add-done c = search needs
 
-cast-t : tie.Need-cast-t Inv-loop2 μ-loop2 Inv-loop3 μ-loop3 Inv-loop μ-loop
-cast-t c = search needs
+cast-taken : tie.Need-cast-taken Inv-loop2 μ-loop2 Inv-loop3 μ-loop3 Inv-loop μ-loop
+cast-taken c = search needs
 
-add-t : tie.Need-add-t Inv-loop2 μ-loop2 Inv-loop3 μ-loop3 Inv-loop μ-loop
-add-t c = search needs
+add-taken : tie.Need-add-taken Inv-loop2 μ-loop2 Inv-loop3 μ-loop3 Inv-loop μ-loop
+add-taken c = search needs
 
 array-copy-out-stays :
     tie.Need-array-copy-out-stays Inv-loop2 μ-loop2 Inv-loop3 μ-loop3 Inv-loop μ-loop
@@ -104,12 +107,12 @@ loop-again c =
     let block-length = c .before .before .before .before .block-length in
     let test1 = c .before .before .before .before .before .loop-test in
     let loop = c .before .before .before .before .before .before .loop in
-    let array-of = c .before .before .before .before .before .before .before .before .array-of in
+    let all-four = c .before .before .before .before .before .before .before .before .all-four in
     let args = c .before .before .before .before .before .before .before .before .before .before .before .before .before .before .args in
-    let o : Progress = record { front = loop .front; machine = machineIn (loop .places) (loop .counts); at = loop .at } in
+    let o : Progress = record { front = loop .front; places = loop .places; counts = loop .counts; at = loop .at } in
     let s = all-three _ _ _ _ (stays .ensures) (if1 .taken) in (
       loop .inv .0,
-      feed-next (record { front = args .o .front; machine = machineIn (array-of .result) (args .o .machine .counts); at = args .o .at }) (args .recent .now) (args .base) (args .flags .now) (args .values .now) (args .out .now)
+      feed-next (record { front = args .o .front; places = all-four .result; counts = args .o .counts; at = args .o .at }) (args .recent .now) (args .base) (args .flags .now) (args .values .now) (args .out .now)
           (loop .out) o (loop .done) (block-length .result) _ (packed .result) o (loop .out) (omega (arith, block-length .ensures .1 .1 .0, test1 .taken)) refl (packed .ensures)
           (stays-law o (packed .result) (block-length .result) _ (args .recent .now) (args .base) (args .values .now) (loop .out) (block-length .ensures .1 .0) (s .0) (s .1) (s .2))
           (loop .inv .1),
@@ -161,15 +164,14 @@ loop-again-2 c =
     let block-length = c .before .before .before .before .before .before .before .before .before .before .block-length in
     let test1 = c .before .before .before .before .before .before .before .before .before .before .before .loop-test in
     let loop = c .before .before .before .before .before .before .before .before .before .before .before .before .loop in
-    let array-of = c .before .before .before .before .before .before .before .before .before .before .before .before .before .before .array-of in
+    let all-four = c .before .before .before .before .before .before .before .before .before .before .before .before .before .before .all-four in
     let args = c .before .before .before .before .before .before .before .before .before .before .before .before .before .before .before .before .before .before .before .before .args in
-    let o : Progress = record { front = loop .front; machine = machineIn (loop .places) (loop .counts); at = loop .at } in
-    let m = (machineIn (loop .places) (loop .counts)) in
+    let o : Progress = record { front = loop .front; places = loop .places; counts = loop .counts; at = loop .at } in
     let s = both _ _ (if2 .taken) in (
       loop .inv .0,
-      feed-next (record { front = args .o .front; machine = machineIn (array-of .result) (args .o .machine .counts); at = args .o .at }) (args .recent .now) (args .base) (args .flags .now) (args .values .now) (args .out .now)
-          (loop .out) o (loop .done) (block-length .result) _ (packed .result) (record { front = advance .result; machine = m; at = loop .at }) (loop .out) (omega (arith, block-length .ensures .1 .1 .0, test1 .taken)) refl (packed .ensures)
-          (block-law o (packed .result) (block-length .result) _ (args .recent .now) (args .base) (args .values .now) (loop .out) (advance .result) (span-of .result) m (loop .at) (loop .out) (advance .ensures) (span-of .ensures)
+      feed-next (record { front = args .o .front; places = all-four .result; counts = args .o .counts; at = args .o .at }) (args .recent .now) (args .base) (args .flags .now) (args .values .now) (args .out .now)
+          (loop .out) o (loop .done) (block-length .result) _ (packed .result) (record { front = advance .result; places = loop .places; counts = loop .counts; at = loop .at }) (loop .out) (omega (arith, block-length .ensures .1 .1 .0, test1 .taken)) refl (packed .ensures)
+          (block-law o (packed .result) (block-length .result) _ (args .recent .now) (args .base) (args .values .now) (loop .out) (advance .result) (span-of .result) (loop .places) (loop .counts) (loop .at) (loop .out) (advance .ensures) (span-of .ensures)
           (end-works (machineIn (loop .places) (loop .counts)) (span-of .result) (block-length .result) _ (args .recent .now) (args .base) (args .values .now) (loop .at) (loop .out) (loop .out) (loop .places) (loop .counts) (loop .at)
           (end-none (machineIn (loop .places) (loop .counts)) (span-of .result) (block-length .result) _ (args .recent .now) (args .base) (args .values .now) (loop .at) (loop .out) (loop .places) (loop .counts) (top .result) refl (block-length .ensures .1 .0) (top .ensures) (eqb-true _ 0 (s .0)))
           (sym (none-due .ensures) ∙ s .1)))
@@ -184,11 +186,14 @@ covers-of-requires c κs =
     let pre = c .before .before .before .before .before .before .before .before .before .before .before .before .before .before .before .before .before .before .before .before .pre in
     omega (arith, pre, block-length .ensures .1 .1 .0, test1 .taken)
 
+twice-requires : tie.Need-twice-requires Inv-loop2 μ-loop2 Inv-loop3 μ-loop3 Inv-loop μ-loop
+twice-requires c κs = search needs
+
 risks-of-requires : tie.Need-risks-of-requires Inv-loop2 μ-loop2 Inv-loop3 μ-loop3 Inv-loop μ-loop
 risks-of-requires c κs =
-    let block-length = c .before .before .before .before .before .before .before .before .before .before .before .block-length in
-    let test1 = c .before .before .before .before .before .before .before .before .before .before .before .before .loop-test in
-    let pre = c .before .before .before .before .before .before .before .before .before .before .before .before .before .before .before .before .before .before .before .before .before .pre in
+    let block-length = c .before .before .before .before .before .before .before .before .before .before .before .before .block-length in
+    let test1 = c .before .before .before .before .before .before .before .before .before .before .before .before .before .loop-test in
+    let pre = c .before .before .before .before .before .before .before .before .before .before .before .before .before .before .before .before .before .before .before .before .before .before .pre in
     omega (arith, pre, block-length .ensures .1 .1 .0, test1 .taken)
 
 wanted-requires : tie.Need-wanted-requires Inv-loop2 μ-loop2 Inv-loop3 μ-loop3 Inv-loop μ-loop
@@ -196,27 +201,30 @@ wanted-requires c κs = search needs
 
 cast-from : tie.Need-cast-from Inv-loop2 μ-loop2 Inv-loop3 μ-loop3 Inv-loop μ-loop
 cast-from c =
-    let block-length = c .before .before .before .before .before .before .before .before .before .before .before .before .before .block-length in
+    let block-length = c .before .before .before .before .before .before .before .before .before .before .before .before .before .before .block-length in
     omega (arith, block-length .ensures .1 .0)
 
 sub-from : tie.Need-sub-from Inv-loop2 μ-loop2 Inv-loop3 μ-loop3 Inv-loop μ-loop
 sub-from c =
-    let block-length = c .before .before .before .before .before .before .before .before .before .before .before .before .before .block-length in
+    let block-length = c .before .before .before .before .before .before .before .before .before .before .before .before .before .before .block-length in
     omega (arith, block-length .ensures .1 .0)
 
 loop2-holds : tie.Need-loop2-holds Inv-loop2 μ-loop2 Inv-loop3 μ-loop3 Inv-loop μ-loop
 loop2-holds c =
     let wanted = c .wanted in
+    let twice = c .before .before .twice in
     let risks-of = c .before .risks-of in
-    let covers-of = c .before .before .covers-of in
-    let top = c .before .before .before .before .before .before .top in
-    let span-of = c .before .before .before .before .before .before .before .span-of in
-    let block-length = c .before .before .before .before .before .before .before .before .before .before .before .before .before .block-length in
-    let loop = c .before .before .before .before .before .before .before .before .before .before .before .before .before .before .before .loop in
-    let args = c .before .before .before .before .before .before .before .before .before .before .before .before .before .before .before .before .before .before .before .before .before .before .before .args in
-    work-start (machineIn (loop .places) (loop .counts)) (span-of .result) (block-length .result) _ (args .recent .now) (args .base) (args .values .now) (loop .at) (loop .out)
-    (loop .places) (covers-of .result) (risks-of .result) (loop .counts) (top .result) (wanted .result) (loop .inv .0) refl (omega (arith, block-length .ensures .1 .0))
-    (all-marked _ (covers-of .result) (risks-of .result) (loop .places) (covers-of .ensures) (risks-of .ensures)) (top .ensures) (wanted .ensures)
+    let covers-of = c .before .before .before .covers-of in
+    let top = c .before .before .before .before .before .before .before .top in
+    let span-of = c .before .before .before .before .before .before .before .before .span-of in
+    let block-length = c .before .before .before .before .before .before .before .before .before .before .before .before .before .before .block-length in
+    let loop = c .before .before .before .before .before .before .before .before .before .before .before .before .before .before .before .before .loop in
+    let args = c .before .before .before .before .before .before .before .before .before .before .before .before .before .before .before .before .before .before .before .before .before .before .before .before .args in (
+      work-start (machineIn (loop .places) (loop .counts)) (span-of .result) (block-length .result) _ (args .recent .now) (args .base) (args .values .now) (loop .at) (loop .out)
+          (loop .places) (covers-of .result) (risks-of .result) (loop .counts) (top .result) (wanted .result) (loop .inv .0) refl (omega (arith, block-length .ensures .1 .0))
+          (all-marked _ (covers-of .result) (risks-of .result) (loop .places) (covers-of .ensures) (risks-of .ensures)) (top .ensures) (wanted .ensures),
+      twice .ensures,
+    )
 
 lowest-requires : tie.Need-lowest-requires Inv-loop2 μ-loop2 Inv-loop3 μ-loop3 Inv-loop μ-loop
 lowest-requires c κs = search needs
@@ -224,9 +232,9 @@ lowest-requires c κs = search needs
 tick-of-requires : tie.Need-tick-of-requires Inv-loop2 μ-loop2 Inv-loop3 μ-loop3 Inv-loop μ-loop
 tick-of-requires c κs =
     let lowest = c .lowest in
-    let block-length = c .before .before .before .before .before .before .before .before .before .before .before .before .before .before .before .before .block-length in
-    let test1 = c .before .before .before .before .before .before .before .before .before .before .before .before .before .before .before .before .before .loop-test in
-    let pre = c .before .before .before .before .before .before .before .before .before .before .before .before .before .before .before .before .before .before .before .before .before .before .before .before .before .before .pre in
+    let block-length = c .before .before .before .before .before .before .before .before .before .before .before .before .before .before .before .before .before .block-length in
+    let test1 = c .before .before .before .before .before .before .before .before .before .before .before .before .before .before .before .before .before .before .loop-test in
+    let pre = c .before .before .before .before .before .before .before .before .before .before .before .before .before .before .before .before .before .before .before .before .before .before .before .before .before .before .before .pre in
     (lowest .ensures .below, omega (arith, pre, block-length .ensures .1 .1 .0, test1 .taken))
 
 array-copy-out-is-over :
@@ -272,6 +280,9 @@ without-word-requires :
     tie.Need-without-word-requires Inv-loop2 μ-loop2 Inv-loop3 μ-loop3 Inv-loop μ-loop
 without-word-requires c κs = search needs
 
+twice-requires-2 : tie.Need-twice-requires-2 Inv-loop2 μ-loop2 Inv-loop3 μ-loop3 Inv-loop μ-loop
+twice-requires-2 c κs = search needs
+
 without-word-requires-2 :
     tie.Need-without-word-requires-2 Inv-loop2 μ-loop2 Inv-loop3 μ-loop3 Inv-loop μ-loop
 without-word-requires-2 c κs = search needs
@@ -279,36 +290,39 @@ without-word-requires-2 c κs = search needs
 loop2-less : tie.Need-loop2-less Inv-loop2 μ-loop2 Inv-loop3 μ-loop3 Inv-loop μ-loop
 loop2-less c =
     let without-word2 = c .without-word2 in
-    let idle-place = c .before .before .idle-place in
-    let kept3 = c .before .before .before .kept3 in
-    let kept2 = c .before .before .before .before .before .kept2 in
-    let kept = c .before .before .before .before .before .before .before .kept in
-    let if3 = c .before .before .before .before .before .before .before .before .before .before .before .before .before .before .if3 in
-    let is-over = c .before .before .before .before .before .before .before .before .before .before .before .before .before .before .before .is-over in
-    let tick-of = c .before .before .before .before .before .before .before .before .before .before .before .before .before .before .before .before .before .tick-of in
-    let loop2 = c .before .before .before .before .before .before .before .before .before .before .before .before .before .before .before .before .before .before .before .before .loop2 in
-    turn-over (ended (tick-of .result)) (loop2 .from) (loop2 .places) _ (loop2 .risk) (without-word2 .result) (sym (is-over .ensures) ∙ if3 .taken) (four-places _ _ _ _ _ _ _ _ (kept .ensures) (kept2 .ensures) (kept3 .ensures) (idle-place .ensures)) (without-word2 .ensures)
+    let idle-place = c .before .before .before .idle-place in
+    let kept3 = c .before .before .before .before .kept3 in
+    let kept2 = c .before .before .before .before .before .before .kept2 in
+    let kept = c .before .before .before .before .before .before .before .before .kept in
+    let if3 = c .before .before .before .before .before .before .before .before .before .before .before .before .before .before .before .if3 in
+    let is-over = c .before .before .before .before .before .before .before .before .before .before .before .before .before .before .before .before .is-over in
+    let tick-of = c .before .before .before .before .before .before .before .before .before .before .before .before .before .before .before .before .before .before .tick-of in
+    let loop2 = c .before .before .before .before .before .before .before .before .before .before .before .before .before .before .before .before .before .before .before .before .before .loop2 in
+    turn-over (ended (tick-of .result .0)) (loop2 .from) (loop2 .places) _ (loop2 .risk) (without-word2 .result) (sym (is-over .ensures) ∙ if3 .taken) (four-places _ _ _ _ _ _ _ _ (kept .ensures) (kept2 .ensures) (kept3 .ensures) (idle-place .ensures)) (without-word2 .ensures)
 
 loop2-again : tie.Need-loop2-again Inv-loop2 μ-loop2 Inv-loop3 μ-loop3 Inv-loop μ-loop
 loop2-again c =
     let without-word2 = c .without-word2 in
-    let without-word = c .before .without-word in
-    let idle-place = c .before .before .idle-place in
-    let kept3 = c .before .before .before .kept3 in
-    let kept2 = c .before .before .before .before .before .kept2 in
-    let kept = c .before .before .before .before .before .before .before .kept in
-    let hand-one = c .before .before .before .before .before .before .before .before .before .before .before .hand-one in
-    let if3 = c .before .before .before .before .before .before .before .before .before .before .before .before .before .before .if3 in
-    let is-over = c .before .before .before .before .before .before .before .before .before .before .before .before .before .before .before .is-over in
-    let tick-of = c .before .before .before .before .before .before .before .before .before .before .before .before .before .before .before .before .before .tick-of in
-    let lowest = c .before .before .before .before .before .before .before .before .before .before .before .before .before .before .before .before .before .before .lowest in
-    let loop2 = c .before .before .before .before .before .before .before .before .before .before .before .before .before .before .before .before .before .before .before .before .loop2 in
-    let span-of = c .before .before .before .before .before .before .before .before .before .before .before .before .before .before .before .before .before .before .before .before .before .before .before .before .before .before .before .before .span-of in
-    let block-length = c .before .before .before .before .before .before .before .before .before .before .before .before .before .before .before .before .before .before .before .before .before .before .before .before .before .before .before .before .before .before .before .before .before .before .block-length in
-    let loop = c .before .before .before .before .before .before .before .before .before .before .before .before .before .before .before .before .before .before .before .before .before .before .before .before .before .before .before .before .before .before .before .before .before .before .before .before .loop in
-    let args = c .before .before .before .before .before .before .before .before .before .before .before .before .before .before .before .before .before .before .before .before .before .before .before .before .before .before .before .before .before .before .before .before .before .before .before .before .before .before .before .before .before .before .before .before .args in
-    work-over (machineIn (loop .places) (loop .counts)) (span-of .result) (block-length .result) _ (args .recent .now) (args .base) (args .values .now) (loop .at) (loop .out) (loop2 .out) (loop2 .places) (loop2 .on) (loop2 .risk) (loop2 .counts) (loop2 .at) (loop2 .todo) (loop2 .from) (loop2 .inv) (lowest .result) (tick-of .result) (lowest .ensures) (tick-of .ensures .1)
-    (is-over .result) (is-over .ensures) (if3 .taken) (hand-one .result) _ (hand-one .kept .1 .1 .0) (hand-one .ensures) (without-word .result) (without-word2 .result) _ (without-word .ensures) (without-word2 .ensures) (four-places _ _ _ _ _ _ _ _ (kept .ensures) (kept2 .ensures) (kept3 .ensures) (idle-place .ensures))
+    let twice2 = c .before .twice2 in
+    let without-word = c .before .before .without-word in
+    let idle-place = c .before .before .before .idle-place in
+    let kept3 = c .before .before .before .before .kept3 in
+    let kept2 = c .before .before .before .before .before .before .kept2 in
+    let kept = c .before .before .before .before .before .before .before .before .kept in
+    let hand-one = c .before .before .before .before .before .before .before .before .before .before .before .before .hand-one in
+    let if3 = c .before .before .before .before .before .before .before .before .before .before .before .before .before .before .before .if3 in
+    let is-over = c .before .before .before .before .before .before .before .before .before .before .before .before .before .before .before .before .is-over in
+    let tick-of = c .before .before .before .before .before .before .before .before .before .before .before .before .before .before .before .before .before .before .tick-of in
+    let lowest = c .before .before .before .before .before .before .before .before .before .before .before .before .before .before .before .before .before .before .before .lowest in
+    let loop2 = c .before .before .before .before .before .before .before .before .before .before .before .before .before .before .before .before .before .before .before .before .before .loop2 in
+    let span-of = c .before .before .before .before .before .before .before .before .before .before .before .before .before .before .before .before .before .before .before .before .before .before .before .before .before .before .before .before .before .before .span-of in
+    let block-length = c .before .before .before .before .before .before .before .before .before .before .before .before .before .before .before .before .before .before .before .before .before .before .before .before .before .before .before .before .before .before .before .before .before .before .before .before .block-length in
+    let loop = c .before .before .before .before .before .before .before .before .before .before .before .before .before .before .before .before .before .before .before .before .before .before .before .before .before .before .before .before .before .before .before .before .before .before .before .before .before .before .loop in
+    let args = c .before .before .before .before .before .before .before .before .before .before .before .before .before .before .before .before .before .before .before .before .before .before .before .before .before .before .before .before .before .before .before .before .before .before .before .before .before .before .before .before .before .before .before .before .before .before .args in (
+      work-over (machineIn (loop .places) (loop .counts)) (span-of .result) (block-length .result) _ (args .recent .now) (args .base) (args .values .now) (loop .at) (loop .out) (loop2 .out) (loop2 .places) (loop2 .on) (loop2 .risk) (loop2 .counts) (loop2 .at) (loop2 .todo) (loop2 .from) (loop2 .inv .0) (lowest .result) (tick-of .result .0) (lowest .ensures) (tick-of .ensures .1)
+          (is-over .result) (is-over .ensures) (if3 .taken) (hand-one .result) _ (hand-one .kept .1 .1 .0) (hand-one .ensures) (without-word .result) (without-word2 .result) _ (without-word .ensures) (without-word2 .ensures) (four-places _ _ _ _ _ _ _ _ (kept .ensures) (kept2 .ensures) (kept3 .ensures) (idle-place .ensures)),
+      twice2 .ensures,
+    )
 
 edge-at-requires : tie.Need-edge-at-requires Inv-loop2 μ-loop2 Inv-loop3 μ-loop3 Inv-loop μ-loop
 edge-at-requires c κs =
@@ -316,21 +330,22 @@ edge-at-requires c κs =
     let lowest = c .before .before .before .before .lowest in
     (lowest .ensures .below, tick-of .ensures .0)
 
-framed-requires : tie.Need-framed-requires Inv-loop2 μ-loop2 Inv-loop3 μ-loop3 Inv-loop μ-loop
-framed-requires c κs =
+has-bracket-requires : tie.Need-has-bracket-requires Inv-loop2 μ-loop2 Inv-loop3 μ-loop3 Inv-loop μ-loop
+has-bracket-requires c κs =
     let lowest = c .before .before .before .before .before .lowest in
     lowest .ensures .below
 
-second-at-requires :
-    tie.Need-second-at-requires Inv-loop2 μ-loop2 Inv-loop3 μ-loop3 Inv-loop μ-loop
-second-at-requires c κs =
-    let tick-of = c .before .before .before .before .before .before .tick-of in
-    let lowest = c .before .before .before .before .before .before .before .lowest in
-    (lowest .ensures .below, tick-of .ensures .0)
+second-tick-requires :
+    tie.Need-second-tick-requires Inv-loop2 μ-loop2 Inv-loop3 μ-loop3 Inv-loop μ-loop
+second-tick-requires c κs = search needs
 
 firsts-of-requires :
     tie.Need-firsts-of-requires Inv-loop2 μ-loop2 Inv-loop3 μ-loop3 Inv-loop μ-loop
 firsts-of-requires c κs = search needs
+
+second-main-requires :
+    tie.Need-second-main-requires Inv-loop2 μ-loop2 Inv-loop3 μ-loop3 Inv-loop μ-loop
+second-main-requires c κs = search needs
 
 is-busy-requires : tie.Need-is-busy-requires Inv-loop2 μ-loop2 Inv-loop3 μ-loop3 Inv-loop μ-loop
 is-busy-requires c κs = search needs
@@ -338,7 +353,7 @@ is-busy-requires c κs = search needs
 outcome-of-requires :
     tie.Need-outcome-of-requires Inv-loop2 μ-loop2 Inv-loop3 μ-loop3 Inv-loop μ-loop
 outcome-of-requires c κs =
-    let lowest = c .before .before .before .before .before .before .before .before .before .before .lowest in
+    let lowest = c .before .before .before .before .before .before .before .before .before .before .before .lowest in
     lowest .ensures .below
 
 counted-requires : tie.Need-counted-requires Inv-loop2 μ-loop2 Inv-loop3 μ-loop3 Inv-loop μ-loop
@@ -395,6 +410,9 @@ without-word-requires-3 :
     tie.Need-without-word-requires-3 Inv-loop2 μ-loop2 Inv-loop3 μ-loop3 Inv-loop μ-loop
 without-word-requires-3 c κs = search needs
 
+twice-requires-3 : tie.Need-twice-requires-3 Inv-loop2 μ-loop2 Inv-loop3 μ-loop3 Inv-loop μ-loop
+twice-requires-3 c κs = search needs
+
 without-word-requires-4 :
     tie.Need-without-word-requires-4 Inv-loop2 μ-loop2 Inv-loop3 μ-loop3 Inv-loop μ-loop
 without-word-requires-4 c κs = search needs
@@ -402,60 +420,73 @@ without-word-requires-4 c κs = search needs
 loop2-less-2 : tie.Need-loop2-less-2 Inv-loop2 μ-loop2 Inv-loop3 μ-loop3 Inv-loop μ-loop
 loop2-less-2 c =
     let without-word4 = c .without-word4 in
-    let idle-place2 = c .before .before .idle-place2 in
-    let kept6 = c .before .before .before .kept6 in
-    let behind3 = c .before .before .before .before .before .behind3 in
-    let kept5 = c .before .before .before .before .before .before .kept5 in
-    let behind2 = c .before .before .before .before .before .before .before .before .behind2 in
-    let kept4 = c .before .before .before .before .before .before .before .before .before .kept4 in
-    let behind = c .before .before .before .before .before .before .before .before .before .before .before .behind in
-    let if5 = c .before .before .before .before .before .before .before .before .before .before .before .before .if5 in
-    let removed-by = c .before .before .before .before .before .before .before .before .before .before .before .before .before .removed-by in
-    let outcome-of = c .before .before .before .before .before .before .before .before .before .before .before .before .before .before .before .outcome-of in
-    let lowest = c .before .before .before .before .before .before .before .before .before .before .before .before .before .before .before .before .before .before .before .before .before .before .before .before .before .before .lowest in
-    let loop2 = c .before .before .before .before .before .before .before .before .before .before .before .before .before .before .before .before .before .before .before .before .before .before .before .before .before .before .before .before .loop2 in
+    let idle-place2 = c .before .before .before .idle-place2 in
+    let kept6 = c .before .before .before .before .kept6 in
+    let behind3 = c .before .before .before .before .before .before .behind3 in
+    let kept5 = c .before .before .before .before .before .before .before .kept5 in
+    let behind2 = c .before .before .before .before .before .before .before .before .before .behind2 in
+    let kept4 = c .before .before .before .before .before .before .before .before .before .before .kept4 in
+    let behind = c .before .before .before .before .before .before .before .before .before .before .before .before .behind in
+    let if5 = c .before .before .before .before .before .before .before .before .before .before .before .before .before .if5 in
+    let removed-by = c .before .before .before .before .before .before .before .before .before .before .before .before .before .before .removed-by in
+    let outcome-of = c .before .before .before .before .before .before .before .before .before .before .before .before .before .before .before .before .outcome-of in
+    let lowest = c .before .before .before .before .before .before .before .before .before .before .before .before .before .before .before .before .before .before .before .before .before .before .before .before .before .before .before .before .lowest in
+    let loop2 = c .before .before .before .before .before .before .before .before .before .before .before .before .before .before .before .before .before .before .before .before .before .before .before .before .before .before .before .before .before .before .loop2 in
     turn-less (removed-by .result) (lowest .result) (loop2 .from) (loop2 .places) _ (loop2 .risk) (without-word4 .result) (if5 .taken) (removed-by .ensures ∙ outcome-of .ensures .last (omega (arith, removed-by .ensures, if5 .taken))) (four-places _ _ _ _ _ _ _ _ (kept4 .ensures ∙ ap (λ (n : ℕ). getD (loop2 .places) n idle) (behind .ensures .0)) (kept5 .ensures ∙ ap (λ (n : ℕ). getD (loop2 .places) n idle) (behind2 .ensures .0)) (kept6 .ensures ∙ ap (λ (n : ℕ). getD (loop2 .places) n idle) (behind3 .ensures .0)) (idle-place2 .ensures)) (without-word4 .ensures)
 
 loop2-again-2 : tie.Need-loop2-again-2 Inv-loop2 μ-loop2 Inv-loop3 μ-loop3 Inv-loop μ-loop
 loop2-again-2 c =
     let without-word4 = c .without-word4 in
-    let without-word3 = c .before .without-word3 in
-    let idle-place2 = c .before .before .idle-place2 in
-    let kept6 = c .before .before .before .kept6 in
-    let behind3 = c .before .before .before .before .before .behind3 in
-    let kept5 = c .before .before .before .before .before .before .kept5 in
-    let behind2 = c .before .before .before .before .before .before .before .before .behind2 in
-    let kept4 = c .before .before .before .before .before .before .before .before .before .kept4 in
-    let behind = c .before .before .before .before .before .before .before .before .before .before .before .behind in
-    let if5 = c .before .before .before .before .before .before .before .before .before .before .before .before .if5 in
-    let removed-by = c .before .before .before .before .before .before .before .before .before .before .before .before .before .removed-by in
-    let counted = c .before .before .before .before .before .before .before .before .before .before .before .before .before .before .counted in
-    let outcome-of = c .before .before .before .before .before .before .before .before .before .before .before .before .before .before .before .outcome-of in
-    let is-busy = c .before .before .before .before .before .before .before .before .before .before .before .before .before .before .before .before .is-busy in
-    let firsts-of = c .before .before .before .before .before .before .before .before .before .before .before .before .before .before .before .before .before .firsts-of in
-    let second-at = c .before .before .before .before .before .before .before .before .before .before .before .before .before .before .before .before .before .before .second-at in
-    let if4 = c .before .before .before .before .before .before .before .before .before .before .before .before .before .before .before .before .before .before .before .if4 in
-    let framed = c .before .before .before .before .before .before .before .before .before .before .before .before .before .before .before .before .before .before .before .before .framed in
-    let edge-at = c .before .before .before .before .before .before .before .before .before .before .before .before .before .before .before .before .before .before .before .before .before .edge-at in
-    let if3 = c .before .before .before .before .before .before .before .before .before .before .before .before .before .before .before .before .before .before .before .before .before .before .if3 in
-    let is-over = c .before .before .before .before .before .before .before .before .before .before .before .before .before .before .before .before .before .before .before .before .before .before .before .is-over in
-    let tick-of = c .before .before .before .before .before .before .before .before .before .before .before .before .before .before .before .before .before .before .before .before .before .before .before .before .before .tick-of in
-    let lowest = c .before .before .before .before .before .before .before .before .before .before .before .before .before .before .before .before .before .before .before .before .before .before .before .before .before .before .lowest in
-    let loop2 = c .before .before .before .before .before .before .before .before .before .before .before .before .before .before .before .before .before .before .before .before .before .before .before .before .before .before .before .before .loop2 in
-    let span-of = c .before .before .before .before .before .before .before .before .before .before .before .before .before .before .before .before .before .before .before .before .before .before .before .before .before .before .before .before .before .before .before .before .before .before .before .before .span-of in
-    let block-length = c .before .before .before .before .before .before .before .before .before .before .before .before .before .before .before .before .before .before .before .before .before .before .before .before .before .before .before .before .before .before .before .before .before .before .before .before .before .before .before .before .before .before .block-length in
-    let loop = c .before .before .before .before .before .before .before .before .before .before .before .before .before .before .before .before .before .before .before .before .before .before .before .before .before .before .before .before .before .before .before .before .before .before .before .before .before .before .before .before .before .before .before .before .loop in
-    let args = c .before .before .before .before .before .before .before .before .before .before .before .before .before .before .before .before .before .before .before .before .before .before .before .before .before .before .before .before .before .before .before .before .before .before .before .before .before .before .before .before .before .before .before .before .before .before .before .before .before .before .before .before .args in
-    work-less (machineIn (loop .places) (loop .counts)) (span-of .result) (block-length .result) _ (args .recent .now) (args .base) (args .values .now) (loop .at) (loop .out) (loop2 .out) (loop2 .places) (loop2 .on) (loop2 .risk) (loop2 .counts) (loop2 .at) (loop2 .todo) (loop2 .from) (loop2 .inv) (lowest .result) (tick-of .result) (lowest .ensures) (tick-of .ensures .1) (is-over .result) (is-over .ensures) (if3 .left) (edge-at .result) (edge-at .ensures) (second-at .result)
-    (second-as (span-of .result) (lowest .result) (tick-of .result) (args .recent .now) (args .base) (args .values .now) (framed .result) (framed .ensures) (if4 .taken) (second-at .result) (second-at .ensures))
-    (firsts-of .result) (firsts-of .ensures) (is-busy .result) (outcome-of .result) (outcome-of .ensures) (removed-by .result) (removed-by .ensures) (if5 .taken) (counted .result) (counted .ensures) (without-word3 .result) (without-word4 .result) _ (without-word3 .ensures) (without-word4 .ensures) (four-places _ _ _ _ _ _ _ _ (kept4 .ensures ∙ ap (λ (n : ℕ). getD (loop2 .places) n idle) (behind .ensures .0)) (kept5 .ensures ∙ ap (λ (n : ℕ). getD (loop2 .places) n idle) (behind2 .ensures .0)) (kept6 .ensures ∙ ap (λ (n : ℕ). getD (loop2 .places) n idle) (behind3 .ensures .0)) (idle-place2 .ensures))
+    let twice3 = c .before .twice3 in
+    let without-word3 = c .before .before .without-word3 in
+    let idle-place2 = c .before .before .before .idle-place2 in
+    let kept6 = c .before .before .before .before .kept6 in
+    let behind3 = c .before .before .before .before .before .before .behind3 in
+    let kept5 = c .before .before .before .before .before .before .before .kept5 in
+    let behind2 = c .before .before .before .before .before .before .before .before .before .behind2 in
+    let kept4 = c .before .before .before .before .before .before .before .before .before .before .kept4 in
+    let behind = c .before .before .before .before .before .before .before .before .before .before .before .before .behind in
+    let if5 = c .before .before .before .before .before .before .before .before .before .before .before .before .before .if5 in
+    let removed-by = c .before .before .before .before .before .before .before .before .before .before .before .before .before .before .removed-by in
+    let counted = c .before .before .before .before .before .before .before .before .before .before .before .before .before .before .before .counted in
+    let outcome-of = c .before .before .before .before .before .before .before .before .before .before .before .before .before .before .before .before .outcome-of in
+    let is-busy = c .before .before .before .before .before .before .before .before .before .before .before .before .before .before .before .before .before .is-busy in
+    let firsts-of = c .before .before .before .before .before .before .before .before .before .before .before .before .before .before .before .before .before .before .before .firsts-of in
+    let second-tick = c .before .before .before .before .before .before .before .before .before .before .before .before .before .before .before .before .before .before .before .before .second-tick in
+    let second-main = c .before .before .before .before .before .before .before .before .before .before .before .before .before .before .before .before .before .before .second-main in
+    let if4 = c .before .before .before .before .before .before .before .before .before .before .before .before .before .before .before .before .before .before .before .before .before .if4 in
+    let has-bracket = c .before .before .before .before .before .before .before .before .before .before .before .before .before .before .before .before .before .before .before .before .before .before .has-bracket in
+    let edge-at = c .before .before .before .before .before .before .before .before .before .before .before .before .before .before .before .before .before .before .before .before .before .before .before .edge-at in
+    let if3 = c .before .before .before .before .before .before .before .before .before .before .before .before .before .before .before .before .before .before .before .before .before .before .before .before .if3 in
+    let is-over = c .before .before .before .before .before .before .before .before .before .before .before .before .before .before .before .before .before .before .before .before .before .before .before .before .before .is-over in
+    let tick-of = c .before .before .before .before .before .before .before .before .before .before .before .before .before .before .before .before .before .before .before .before .before .before .before .before .before .before .before .tick-of in
+    let lowest = c .before .before .before .before .before .before .before .before .before .before .before .before .before .before .before .before .before .before .before .before .before .before .before .before .before .before .before .before .lowest in
+    let loop2 = c .before .before .before .before .before .before .before .before .before .before .before .before .before .before .before .before .before .before .before .before .before .before .before .before .before .before .before .before .before .before .loop2 in
+    let span-of = c .before .before .before .before .before .before .before .before .before .before .before .before .before .before .before .before .before .before .before .before .before .before .before .before .before .before .before .before .before .before .before .before .before .before .before .before .before .before .before .span-of in
+    let block-length = c .before .before .before .before .before .before .before .before .before .before .before .before .before .before .before .before .before .before .before .before .before .before .before .before .before .before .before .before .before .before .before .before .before .before .before .before .before .before .before .before .before .before .before .before .before .block-length in
+    let loop = c .before .before .before .before .before .before .before .before .before .before .before .before .before .before .before .before .before .before .before .before .before .before .before .before .before .before .before .before .before .before .before .before .before .before .before .before .before .before .before .before .before .before .before .before .before .before .before .loop in
+    let args = c .before .before .before .before .before .before .before .before .before .before .before .before .before .before .before .before .before .before .before .before .before .before .before .before .before .before .before .before .before .before .before .before .before .before .before .before .before .before .before .before .before .before .before .before .before .before .before .before .before .before .before .before .before .before .before .args in
+    let f2 = secondIn (span-of .result) (lowest .result) (tick-of .result .0) (args .recent .now) (args .base) (args .values .now) in (
+      work-less (machineIn (loop .places) (loop .counts)) (span-of .result) (block-length .result) _ (args .recent .now) (args .base) (args .values .now) (loop .at) (loop .out) (loop2 .out) (loop2 .places) (loop2 .on) (loop2 .risk) (loop2 .counts) (loop2 .at) (loop2 .todo) (loop2 .from) (loop2 .inv .0) (lowest .result) (tick-of .result .0) (lowest .ensures) (tick-of .ensures .1) (is-over .result) (is-over .ensures) (if3 .left) (edge-at .result) (edge-at .ensures) f2
+          (second-as (span-of .result) (lowest .result) (tick-of .result .0) (args .recent .now) (args .base) (args .values .now) (has-bracket .result) (has-bracket .ensures) (if4 .taken) f2 refl)
+          (firsts-of .result) (firsts-of .ensures) (is-busy .result) (outcome-of .result)
+          (second-outcome (span-of .result) (lowest .result) (tick-of .result .0) (args .recent .now) (args .base) (args .values .now) (firsts-of .result) (loop2 .on) (loop2 .risk) (edge-at .result) (second-tick .result .0) (second-main .result) (is-busy .result) (outcome-of .result) (second-tick .ensures .0) (second-main .ensures) (outcome-of .ensures)) (removed-by .result) (removed-by .ensures) (if5 .taken) (counted .result) (counted .ensures) (without-word3 .result) (without-word4 .result) _ (without-word3 .ensures) (without-word4 .ensures) (four-places _ _ _ _ _ _ _ _ (kept4 .ensures ∙ ap (λ (n : ℕ). getD (loop2 .places) n idle) (behind .ensures .0)) (kept5 .ensures ∙ ap (λ (n : ℕ). getD (loop2 .places) n idle) (behind2 .ensures .0)) (kept6 .ensures ∙ ap (λ (n : ℕ). getD (loop2 .places) n idle) (behind3 .ensures .0)) (idle-place2 .ensures)),
+      twice3 .ensures,
+    )
 
 opens-requires : tie.Need-opens-requires Inv-loop2 μ-loop2 Inv-loop3 μ-loop3 Inv-loop μ-loop
 opens-requires c κs = search needs
 
+second-at-requires :
+    tie.Need-second-at-requires Inv-loop2 μ-loop2 Inv-loop3 μ-loop3 Inv-loop μ-loop
+second-at-requires c κs =
+    let tick-of = c .before .before .before .before .before .before .before .before .before .before .before .before .before .before .before .before .tick-of in
+    let lowest = c .before .before .before .before .before .before .before .before .before .before .before .before .before .before .before .before .before .lowest in
+    (lowest .ensures .below, tick-of .ensures .0)
+
 opened-requires : tie.Need-opened-requires Inv-loop2 μ-loop2 Inv-loop3 μ-loop3 Inv-loop μ-loop
 opened-requires c κs =
-    let lowest = c .before .before .before .before .before .before .before .before .before .before .before .before .before .before .before .before .lowest in
+    let lowest = c .before .before .before .before .before .before .before .before .before .before .before .before .before .before .before .before .before .before .lowest in
     lowest .ensures .below
 
 free-requires : tie.Need-free-requires Inv-loop2 μ-loop2 Inv-loop3 μ-loop3 Inv-loop μ-loop
@@ -471,17 +502,20 @@ array-set-from-places c = search needs
 open-cover-requires :
     tie.Need-open-cover-requires Inv-loop2 μ-loop2 Inv-loop3 μ-loop3 Inv-loop μ-loop
 open-cover-requires c κs =
-    let lowest = c .before .before .before .before .before .before .before .before .before .before .before .before .before .before .before .before .before .before .before .lowest in
+    let lowest = c .before .before .before .before .before .before .before .before .before .before .before .before .before .before .before .before .before .before .before .before .before .lowest in
     lowest .ensures .below
 
 with-word-requires :
     tie.Need-with-word-requires Inv-loop2 μ-loop2 Inv-loop3 μ-loop3 Inv-loop μ-loop
 with-word-requires c κs = search needs
 
+twice-requires-4 : tie.Need-twice-requires-4 Inv-loop2 μ-loop2 Inv-loop3 μ-loop3 Inv-loop μ-loop
+twice-requires-4 c κs = search needs
+
 open-phantom-requires :
     tie.Need-open-phantom-requires Inv-loop2 μ-loop2 Inv-loop3 μ-loop3 Inv-loop μ-loop
 open-phantom-requires c κs =
-    let lowest = c .before .before .before .before .before .before .before .before .before .before .before .before .before .before .before .before .before .before .before .before .before .lowest in
+    let lowest = c .before .before .before .before .before .before .before .before .before .before .before .before .before .before .before .before .before .before .before .before .before .before .before .before .lowest in
     lowest .ensures .below
 
 with-word-requires-2 :
@@ -490,7 +524,7 @@ with-word-requires-2 c κs = search needs
 
 above-requires : tie.Need-above-requires Inv-loop2 μ-loop2 Inv-loop3 μ-loop3 Inv-loop μ-loop
 above-requires c κs =
-    let lowest = c .before .before .before .before .before .before .before .before .before .before .before .before .before .before .before .before .lowest in
+    let lowest = c .before .before .before .before .before .before .before .before .before .before .before .before .before .before .before .before .before .lowest in
     lowest .ensures .below
 
 wanted-requires-2 : tie.Need-wanted-requires-2 Inv-loop2 μ-loop2 Inv-loop3 μ-loop3 Inv-loop μ-loop
@@ -500,23 +534,20 @@ without-lowest-requires :
     tie.Need-without-lowest-requires Inv-loop2 μ-loop2 Inv-loop3 μ-loop3 Inv-loop μ-loop
 without-lowest-requires c κs = search needs
 
-twice-requires : tie.Need-twice-requires Inv-loop2 μ-loop2 Inv-loop3 μ-loop3 Inv-loop μ-loop
-twice-requires c κs = search needs
-
 marked-requires : tie.Need-marked-requires Inv-loop2 μ-loop2 Inv-loop3 μ-loop3 Inv-loop μ-loop
 marked-requires c κs =
-    let lowest = c .before .before .before .before .before .before .before .before .lowest in
+    let lowest = c .before .before .before .before .before .before .before .lowest in
     lowest .ensures .below
 
 agreement-of-requires :
     tie.Need-agreement-of-requires Inv-loop2 μ-loop2 Inv-loop3 μ-loop3 Inv-loop μ-loop
 agreement-of-requires c κs =
-    let lowest = c .before .before .before .before .before .before .before .before .before .before .lowest in
+    let lowest = c .before .before .before .before .before .before .before .before .before .lowest in
     lowest .ensures .below
 
 marked-requires-2 : tie.Need-marked-requires-2 Inv-loop2 μ-loop2 Inv-loop3 μ-loop3 Inv-loop μ-loop
 marked-requires-2 c κs =
-    let lowest = c .before .before .before .before .before .before .before .before .before .before .before .lowest in
+    let lowest = c .before .before .before .before .before .before .before .before .before .before .lowest in
     lowest .ensures .below
 
 array-copy-out-q : tie.Need-array-copy-out-q Inv-loop2 μ-loop2 Inv-loop3 μ-loop3 Inv-loop μ-loop
@@ -531,7 +562,7 @@ array-set-from-places-2 c = search needs
 
 marked-requires-3 : tie.Need-marked-requires-3 Inv-loop2 μ-loop2 Inv-loop3 μ-loop3 Inv-loop μ-loop
 marked-requires-3 c κs =
-    let lowest = c .before .before .before .before .before .before .before .before .before .before .before .before .before .lowest in
+    let lowest = c .before .before .before .before .before .before .before .before .before .before .before .before .lowest in
     lowest .ensures .below
 
 array-copy-out-q-2 :
@@ -547,7 +578,7 @@ array-set-from-places-3 c = search needs
 
 marked-requires-4 : tie.Need-marked-requires-4 Inv-loop2 μ-loop2 Inv-loop3 μ-loop3 Inv-loop μ-loop
 marked-requires-4 c κs =
-    let lowest = c .before .before .before .before .before .before .before .before .before .before .before .before .before .before .before .lowest in
+    let lowest = c .before .before .before .before .before .before .before .before .before .before .before .before .before .before .lowest in
     lowest .ensures .below
 
 array-copy-out-q-3 :
@@ -563,7 +594,7 @@ array-set-from-places-4 c = search needs
 
 marked-requires-5 : tie.Need-marked-requires-5 Inv-loop2 μ-loop2 Inv-loop3 μ-loop3 Inv-loop μ-loop
 marked-requires-5 c κs =
-    let lowest = c .before .before .before .before .before .before .before .before .before .before .before .before .before .before .before .before .before .lowest in
+    let lowest = c .before .before .before .before .before .before .before .before .before .before .before .before .before .before .before .before .lowest in
     lowest .ensures .below
 
 array-copy-out-q-4 :
@@ -582,12 +613,12 @@ any-word-requires c κs = search needs
 
 marked-requires-6 : tie.Need-marked-requires-6 Inv-loop2 μ-loop2 Inv-loop3 μ-loop3 Inv-loop μ-loop
 marked-requires-6 c κs =
-    let lowest = c .before .before .before .before .before .before .before .before .before .before .before .lowest in
+    let lowest = c .before .before .before .before .before .before .before .before .before .before .lowest in
     lowest .ensures .below
 
 which-requires : tie.Need-which-requires Inv-loop2 μ-loop2 Inv-loop3 μ-loop3 Inv-loop μ-loop
 which-requires c κs =
-    let lowest = c .before .before .before .before .before .before .before .before .before .before .before .before .before .lowest in
+    let lowest = c .before .before .before .before .before .before .before .before .before .before .before .before .lowest in
     lowest .ensures .below
 
 mul-q : tie.Need-mul-q Inv-loop2 μ-loop2 Inv-loop3 μ-loop3 Inv-loop μ-loop
@@ -616,46 +647,58 @@ add-from c = search needs
 loop2-less-3 : tie.Need-loop2-less-3 Inv-loop2 μ-loop2 Inv-loop3 μ-loop3 Inv-loop μ-loop
 loop2-less-3 c =
     let if7 = c .if7 in
-    let if4 = c .before .before .before .if4 in
-    let tick-of = c .before .before .before .before .before .before .before .before .before .tick-of in
-    let lowest = c .before .before .before .before .before .before .before .before .before .before .lowest in
-    let loop2 = c .before .before .before .before .before .before .before .before .before .before .before .before .loop2 in
+    let if4 = c .before .before .if4 in
+    let tick-of = c .before .before .before .before .before .before .before .before .tick-of in
+    let lowest = c .before .before .before .before .before .before .before .before .before .lowest in
+    let loop2 = c .before .before .before .before .before .before .before .before .before .before .before .loop2 in
     let span-of = c .before .before .before .before .before .before .before .before .before .before .before .before .before .before .before .before .before .before .before .before .span-of in
     let block-length = c .before .before .before .before .before .before .before .before .before .before .before .before .before .before .before .before .before .before .before .before .before .before .before .before .before .before .block-length in
     let loop = c .before .before .before .before .before .before .before .before .before .before .before .before .before .before .before .before .before .before .before .before .before .before .before .before .before .before .before .before .loop in
     let args = c .before .before .before .before .before .before .before .before .before .before .before .before .before .before .before .before .before .before .before .before .before .before .before .before .before .before .before .before .before .before .before .before .before .before .before .before .args in
-    turn-taken (loop2 .from) (lowest .result) (loop2 .places) (if7 .places) (loop2 .risk) (if4 .risk) (first-from (machineIn (loop .places) (loop .counts)) (span-of .result) (block-length .result) _ (args .recent .now) (args .base) (args .values .now) (loop .at) (loop .out) (loop2 .out) (loop2 .places) (loop2 .on) (loop2 .risk) (loop2 .counts) (loop2 .at) (loop2 .todo) (loop2 .from) (loop2 .inv) (lowest .result) (tick-of .result) (lowest .ensures) (tick-of .ensures .1)) (lowest .ensures .below)
+    turn-taken (loop2 .from) (lowest .result) (loop2 .places) (if7 .places) (loop2 .risk) (if4 .risk) (first-from (machineIn (loop .places) (loop .counts)) (span-of .result) (block-length .result) _ (args .recent .now) (args .base) (args .values .now) (loop .at) (loop .out) (loop2 .out) (loop2 .places) (loop2 .on) (loop2 .risk) (loop2 .counts) (loop2 .at) (loop2 .todo) (loop2 .from) (loop2 .inv .0) (lowest .result) (tick-of .result .0) (lowest .ensures) (tick-of .ensures .1)) (lowest .ensures .below)
 
 loop2-again-3 : tie.Need-loop2-again-3 Inv-loop2 μ-loop2 Inv-loop3 μ-loop3 Inv-loop μ-loop
 loop2-again-3 c =
     let if7 = c .if7 in
     let marked = c .before .marked in
-    let twice = c .before .before .twice in
-    let if4 = c .before .before .before .if4 in
-    let framed = c .before .before .before .before .framed in
-    let edge-at = c .before .before .before .before .before .edge-at in
-    let if3 = c .before .before .before .before .before .before .if3 in
-    let is-over = c .before .before .before .before .before .before .before .is-over in
-    let tick-of = c .before .before .before .before .before .before .before .before .before .tick-of in
-    let lowest = c .before .before .before .before .before .before .before .before .before .before .lowest in
-    let loop2 = c .before .before .before .before .before .before .before .before .before .before .before .before .loop2 in
+    let if4 = c .before .before .if4 in
+    let has-bracket = c .before .before .before .has-bracket in
+    let edge-at = c .before .before .before .before .edge-at in
+    let if3 = c .before .before .before .before .before .if3 in
+    let is-over = c .before .before .before .before .before .before .is-over in
+    let tick-of = c .before .before .before .before .before .before .before .before .tick-of in
+    let lowest = c .before .before .before .before .before .before .before .before .before .lowest in
+    let loop2 = c .before .before .before .before .before .before .before .before .before .before .before .loop2 in
     let top = c .before .before .before .before .before .before .before .before .before .before .before .before .before .before .before .before .before .before .before .top in
     let span-of = c .before .before .before .before .before .before .before .before .before .before .before .before .before .before .before .before .before .before .before .before .span-of in
     let block-length = c .before .before .before .before .before .before .before .before .before .before .before .before .before .before .before .before .before .before .before .before .before .before .before .before .before .before .block-length in
     let loop = c .before .before .before .before .before .before .before .before .before .before .before .before .before .before .before .before .before .before .before .before .before .before .before .before .before .before .before .before .loop in
     let args = c .before .before .before .before .before .before .before .before .before .before .before .before .before .before .before .before .before .before .before .before .before .before .before .before .before .before .before .before .before .before .before .before .before .before .before .before .args in
-    let size : length (loop2 .places) ≡ 4 = loop2 .inv .size in
-    let stood : Stood (span-of .result) (lowest .result) (tick-of .result) (args .recent .now) (args .base) (args .values .now) (framed .result) (framed .ensures) (block-length .result) (edge-at .result) (loop2 .places) (loop2 .on) (loop2 .risk) (loop2 .counts) (loop2 .todo) (loop2 .from) (loop2 .inv .todos) (lowest .ensures) (if4 .places) (if4 .on) (if4 .risk) (if4 .counts) (if4 .todo) =
+    let size : length (loop2 .places) ≡ 4 = loop2 .inv .0 .size in
+    let f2 = secondIn (span-of .result) (lowest .result) (tick-of .result .0) (args .recent .now) (args .base) (args .values .now) in
+    let low : f2 .tick .0 < 4294967296 = omega (arith, second-low (span-of .result) (lowest .result), tick-of .ensures .0) in
+    let both : TwiceWord (if4 .on) (if4 .both) =
     either (if4 .came)
-    (λ w. stood-framed (span-of .result) (lowest .result) (tick-of .result) (args .recent .now) (args .base) (args .values .now) (framed .result) (framed .ensures) (block-length .result) (edge-at .result) (loop2 .places) (loop2 .on) (loop2 .risk) (loop2 .counts) (loop2 .todo) (loop2 .from) (loop2 .inv .todos) (lowest .ensures) (w .1 .result)
-    (second-as (span-of .result) (lowest .result) (tick-of .result) (args .recent .now) (args .base) (args .values .now) (framed .result) (framed .ensures) (w .0 .taken) (w .1 .result) (w .1 .ensures))
-    (if4 .places) (if4 .on) (if4 .risk) (if4 .counts) (if4 .todo) (top .result) (w .10 .result) (w .11 .result) (w .9 .places) (w .9 .on) (w .9 .risk) (w .5 .result)
-    (either (w .9 .came)
-    (λ v. framed-as (loop2 .places) (loop2 .on) (loop2 .risk) (loop2 .counts) (lowest .result) (edge-at .result) (w .1 .result) _ (w .9 .places) (v .5 .result) (w .9 .on) (v .7 .result) (w .9 .risk) (w .5 .result)
-    (framed-opens (loop2 .places) (loop2 .on) (loop2 .risk) (loop2 .counts) (lowest .result) (edge-at .result) (w .1 .result) size (lowest .ensures .below) (omega (arith, ap (λ (q : Pulse). q .tick .0) (w .1 .ensures), second-low (span-of .result) (lowest .result), tick-of .ensures .0)) (w .2 .result) (w .2 .ensures) (w .3 .result) (w .3 .ensures) (w .4 .result) (w .4 .ensures) (w .6 .result) (w .6 .ensures) (λ z. omega (arith, w .7 .left)) (w .5 .result) (w .5 .ensures) (w .8 .result) (w .8 .ensures) (v .0 .taken) (v .1 .result) (v .1 .ensures) (v .3 .result) (v .3 .ensures .0) (v .3 .ensures .1) (v .4 .result) (v .6 .result) (v .4 .ensures) (v .6 .ensures) (v .5 .result) (v .7 .result) (v .5 .ensures) (v .7 .ensures) _ refl) (v .8) (v .9) (v .10))
-    (λ v. framed-as (loop2 .places) (loop2 .on) (loop2 .risk) (loop2 .counts) (lowest .result) (edge-at .result) (w .1 .result) (loop2 .places) (w .9 .places) (loop2 .on) (w .9 .on) (loop2 .risk) (w .9 .risk) (w .5 .result) (framed-shut (loop2 .places) (loop2 .on) (loop2 .risk) (loop2 .counts) (lowest .result) (edge-at .result) (w .1 .result) size (lowest .ensures .below) (omega (arith, ap (λ (q : Pulse). q .tick .0) (w .1 .ensures), second-low (span-of .result) (lowest .result), tick-of .ensures .0)) (w .2 .result) (w .2 .ensures) (w .3 .result) (w .3 .ensures) (w .4 .result) (w .4 .ensures) (w .6 .result) (w .6 .ensures) (λ z. omega (arith, w .7 .left)) (w .5 .result) (w .5 .ensures) (w .8 .result) (w .8 .ensures) (v .0 .left)) (v .1) (v .2) (v .3)))
-    (top .ensures) (w .10 .ensures) (w .11 .ensures) (w .12) (w .13) (w .14) (w .15) (w .16))
-    (λ w. stood-plain (span-of .result) (lowest .result) (tick-of .result) (args .recent .now) (args .base) (args .values .now) (framed .result) (framed .ensures) (block-length .result) (edge-at .result) (loop2 .places) (loop2 .on) (loop2 .risk) (loop2 .counts) (loop2 .todo) (loop2 .from) (loop2 .inv .todos) (lowest .ensures) (w .0 .left) (if4 .places) (if4 .on) (if4 .risk) (if4 .counts) (if4 .todo) (w .1 .result) (w .1 .ensures) (w .2) (w .3) (w .4) (w .5) (w .6)) in
+    (λ w. twice-as (w .10 .on) (if4 .on) (w .10 .both) (if4 .both)
+    (either (w .10 .came)
+    (λ v. twice-as (v .6 .result) (w .10 .on) (v .7 .result) (w .10 .both) (v .7 .ensures) (v .11) (v .12))
+    (λ v. twice-as (loop2 .on) (w .10 .on) (loop2 .both) (w .10 .both) (loop2 .inv .1) (v .2) (v .3)))
+    (w .15) (w .16))
+    (λ w. twice-as (loop2 .on) (if4 .on) (loop2 .both) (if4 .both) (loop2 .inv .1) (w .4) (w .5)) in
+    let stood : Stood (span-of .result) (lowest .result) (tick-of .result .0) (args .recent .now) (args .base) (args .values .now) (has-bracket .result) (has-bracket .ensures) (block-length .result) (edge-at .result) (loop2 .places) (loop2 .on) (loop2 .risk) (loop2 .counts) (loop2 .todo) (loop2 .from) (loop2 .inv .0 .todos) (lowest .ensures) (if4 .places) (if4 .on) (if4 .risk) (if4 .counts) (if4 .todo) =
+    either (if4 .came)
+    (λ w. stood-bracketed (span-of .result) (lowest .result) (tick-of .result .0) (args .recent .now) (args .base) (args .values .now) (has-bracket .result) (has-bracket .ensures) (block-length .result) (edge-at .result) (loop2 .places) (loop2 .on) (loop2 .risk) (loop2 .counts) (loop2 .todo) (loop2 .from) (loop2 .inv .0 .todos) (lowest .ensures) f2
+    (second-as (span-of .result) (lowest .result) (tick-of .result .0) (args .recent .now) (args .base) (args .values .now) (has-bracket .result) (has-bracket .ensures) (w .0 .taken) f2 refl)
+    (if4 .places) (if4 .on) (if4 .risk) (if4 .counts) (if4 .todo) (top .result) (w .11 .result) (w .12 .result) (w .10 .places) (w .10 .on) (w .10 .risk) (w .6 .result)
+    (either (w .10 .came)
+    (λ v. bracketed-as (loop2 .places) (loop2 .on) (loop2 .risk) (loop2 .counts) (lowest .result) (edge-at .result) f2 _ (w .10 .places) (v .6 .result) (w .10 .on) (v .9 .result) (w .10 .risk) (w .6 .result)
+    (bracketed-opens (loop2 .places) (loop2 .on) (loop2 .risk) (loop2 .counts) (lowest .result) (edge-at .result) f2 size (lowest .ensures .below) low (w .2 .result) (w .2 .ensures) (w .4 .result) (w .4 .ensures) (w .5 .result)
+    (second-outcome (span-of .result) (lowest .result) (tick-of .result .0) (args .recent .now) (args .base) (args .values .now) (w .2 .result) (loop2 .on) (loop2 .risk) (edge-at .result) (w .1 .result .0) (w .3 .result) (w .4 .result) (w .5 .result) (w .1 .ensures .0) (w .3 .ensures) (w .5 .ensures)) (w .7 .result) (w .7 .ensures) (λ z. omega (arith, w .8 .left)) (w .6 .result) (w .6 .ensures) (w .9 .result) (w .9 .ensures) (v .0 .taken) (v .2 .result)
+    (subst (λ (q : Pulse). OpenedPost (w .2 .result) (loop2 .on) (lowest .result) (edge-at .result) q (v .2 .result)) (v .1 .ensures) (v .2 .ensures)) (v .4 .result) (v .4 .ensures .0) (v .4 .ensures .1) (v .5 .result) (v .8 .result) (v .5 .ensures) (v .8 .ensures) (v .6 .result) (v .9 .result) (v .6 .ensures) (v .9 .ensures) _ refl) (v .10) (v .11) (v .13))
+    (λ v. bracketed-as (loop2 .places) (loop2 .on) (loop2 .risk) (loop2 .counts) (lowest .result) (edge-at .result) f2 (loop2 .places) (w .10 .places) (loop2 .on) (w .10 .on) (loop2 .risk) (w .10 .risk) (w .6 .result) (bracketed-shut (loop2 .places) (loop2 .on) (loop2 .risk) (loop2 .counts) (lowest .result) (edge-at .result) f2 size (lowest .ensures .below) low (w .2 .result) (w .2 .ensures) (w .4 .result) (w .4 .ensures) (w .5 .result)
+    (second-outcome (span-of .result) (lowest .result) (tick-of .result .0) (args .recent .now) (args .base) (args .values .now) (w .2 .result) (loop2 .on) (loop2 .risk) (edge-at .result) (w .1 .result .0) (w .3 .result) (w .4 .result) (w .5 .result) (w .1 .ensures .0) (w .3 .ensures) (w .5 .ensures)) (w .7 .result) (w .7 .ensures) (λ z. omega (arith, w .8 .left)) (w .6 .result) (w .6 .ensures) (w .9 .result) (w .9 .ensures) (v .0 .left)) (v .1) (v .2) (v .4)))
+    (top .ensures) (w .11 .ensures) (w .12 .ensures) (w .13) (w .14) (w .15) (w .17) (w .18))
+    (λ w. stood-plain (span-of .result) (lowest .result) (tick-of .result .0) (args .recent .now) (args .base) (args .values .now) (has-bracket .result) (has-bracket .ensures) (block-length .result) (edge-at .result) (loop2 .places) (loop2 .on) (loop2 .risk) (loop2 .counts) (loop2 .todo) (loop2 .from) (loop2 .inv .0 .todos) (lowest .ensures) (w .0 .left) (if4 .places) (if4 .on) (if4 .risk) (if4 .counts) (if4 .todo) (w .1 .result) (w .1 .ensures) (w .2) (w .3) (w .4) (w .6) (w .7)) in
     let dealt : Dealt (if4 .places) (if4 .on) (lowest .result) (edge-at .result) (if7 .places) =
     either (if7 .came)
     (λ w. (subst (λ (m : List Place). Dealt (if4 .places) (if4 .on) (lowest .result) (edge-at .result) m) (sym (w .12)) (deals-four (if4 .places) (w .3 .places) (w .5 .places) (w .7 .places) (set (w .7 .places) 3 (w .11 .result)) (if4 .on) (lowest .result) (edge-at .result) (stood .size ∙ size) (w .2 .result) (w .4 .result) (w .6 .result) (w .8 .result) (w .2 .ensures) (w .4 .ensures) (w .6 .ensures) (w .8 .ensures) (w .1 .result) (w .1 .ensures)
@@ -682,15 +725,15 @@ loop2-again-3 c =
     (λ z. turns-not (w .6 .result) 2 (edge-at .result) (w .1 .result .own .c) (w .1 .result .other .c) (w .5 .places) (w .7 .places) (z .0 .left) (z .1)))
     (turns-not (w .8 .result) 3 (edge-at .result) (w .1 .result .own .d) (w .1 .result .other .d) (w .7 .places) (w .7 .places) (w .9 .left) refl))))
     (λ y. either y
-    (λ w. (subst (λ (m : List Place). Dealt (if4 .places) (if4 .on) (lowest .result) (edge-at .result) m) (sym (w .8)) (deals-one (if4 .places) (if4 .on) (lowest .result) (edge-at .result) (stood .size ∙ size) (twice .result) (w .1 .result) (w .4 .result) (marked .result) (w .2 .result) (w .6 .result) (w .7 .result) (twice .ensures) (marked .ensures) (w .0 .left) (w .1 .ensures) (w .2 .ensures) (w .3 .taken) (w .4 .ensures .0) (w .6 .ensures) (w .7 .ensures))))
+    (λ w. (subst (λ (m : List Place). Dealt (if4 .places) (if4 .on) (lowest .result) (edge-at .result) m) (sym (w .8)) (deals-one (if4 .places) (if4 .on) (lowest .result) (edge-at .result) (stood .size ∙ size) (if4 .both) (w .1 .result) (w .4 .result) (marked .result) (w .2 .result) (w .6 .result) (w .7 .result) both (marked .ensures) (w .0 .left) (w .1 .ensures) (w .2 .ensures) (w .3 .taken) (w .4 .ensures .0) (w .6 .ensures) (w .7 .ensures))))
     (λ w. (subst (λ (m : List Place). Dealt (if4 .places) (if4 .on) (lowest .result) (edge-at .result) m) (sym (w .4)) (deals-none (if4 .places) (if4 .on) (lowest .result) (edge-at .result) (stood .size ∙ size) (w .1 .result) (w .2 .result) (w .1 .ensures) (w .2 .ensures) (w .3 .left)))))) in
-    work-taken (machineIn (loop .places) (loop .counts)) (span-of .result) (block-length .result) _ (args .recent .now) (args .base) (args .values .now) (loop .at) (loop .out) (loop2 .out) (loop2 .places) (loop2 .on) (loop2 .risk) (loop2 .counts) (loop2 .at) (loop2 .todo) (loop2 .from) (loop2 .inv) (lowest .result) (tick-of .result) (lowest .ensures) (tick-of .ensures .1) (is-over .result) (is-over .ensures) (if3 .left) (edge-at .result) (edge-at .ensures) (bracketIn (span-of .result) (lowest .result) (tick-of .result) (args .recent .now) (args .base) (args .values .now)) refl (if7 .places) (if4 .on) (if4 .risk) (if4 .counts) (stood .visits (if7 .places) (dealt .deal)) (if4 .todo) (stood .todos) (dealt .size ∙ stood .size ∙ size)
+    (work-taken (machineIn (loop .places) (loop .counts)) (span-of .result) (block-length .result) _ (args .recent .now) (args .base) (args .values .now) (loop .at) (loop .out) (loop2 .out) (loop2 .places) (loop2 .on) (loop2 .risk) (loop2 .counts) (loop2 .at) (loop2 .todo) (loop2 .from) (loop2 .inv .0) (lowest .result) (tick-of .result .0) (lowest .ensures) (tick-of .ensures .1) (is-over .result) (is-over .ensures) (if3 .left) (edge-at .result) (edge-at .ensures) (bracketIn (span-of .result) (lowest .result) (tick-of .result .0) (args .recent .now) (args .base) (args .values .now)) refl (if7 .places) (if4 .on) (if4 .risk) (if4 .counts) (stood .visits (if7 .places) (dealt .deal)) (if4 .todo) (stood .todos) (dealt .size ∙ stood .size ∙ size), both)
 
 loop3-holds : tie.Need-loop3-holds Inv-loop2 μ-loop2 Inv-loop3 μ-loop3 Inv-loop μ-loop
 loop3-holds c =
     let loop2 = c .before .loop2 in
-    let block-length = c .before .before .before .before .before .before .before .before .before .before .before .before .before .before .before .block-length in
-    let args = c .before .before .before .before .before .before .before .before .before .before .before .before .before .before .before .before .before .before .before .before .before .before .before .before .before .args in
+    let block-length = c .before .before .before .before .before .before .before .before .before .before .before .before .before .before .before .before .block-length in
+    let args = c .before .before .before .before .before .before .before .before .before .before .before .before .before .before .before .before .before .before .before .before .before .before .before .before .before .before .args in
     hands-none (block-length .result) _ (args .recent .now) (args .base) (args .values .now) (loop2 .counts) (loop2 .out) (loop2 .places) (loop2 .at)
 
 array-copy-out-none-due-2 :
@@ -703,9 +746,9 @@ none-due-requires-2 c κs = search needs
 
 loop-less-3 : tie.Need-loop-less-3 Inv-loop2 μ-loop2 Inv-loop3 μ-loop3 Inv-loop μ-loop
 loop-less-3 c =
-    let block-length = c .before .before .before .before .before .before .before .before .before .before .before .before .before .before .before .before .before .before .before .block-length in
-    let test1 = c .before .before .before .before .before .before .before .before .before .before .before .before .before .before .before .before .before .before .before .before .loop-test in
-    let loop = c .before .before .before .before .before .before .before .before .before .before .before .before .before .before .before .before .before .before .before .before .before .loop in
+    let block-length = c .before .before .before .before .before .before .before .before .before .before .before .before .before .before .before .before .before .before .before .before .block-length in
+    let test1 = c .before .before .before .before .before .before .before .before .before .before .before .before .before .before .before .before .before .before .before .before .before .loop-test in
+    let loop = c .before .before .before .before .before .before .before .before .before .before .before .before .before .before .before .before .before .before .before .before .before .before .loop in
     omega (arith, block-length .ensures .1 .1 .0, block-length .ensures .1 .1 .1 (omega (arith, test1 .taken)), loop .inv .1 .most)
 
 loop-again-3 : tie.Need-loop-again-3 Inv-loop2 μ-loop2 Inv-loop3 μ-loop3 Inv-loop μ-loop
@@ -715,36 +758,35 @@ loop-again-3 c =
     let loop3 = c .before .before .before .loop3 in
     let test2 = c .before .before .before .before .loop2-test in
     let loop2 = c .before .before .before .before .before .loop2 in
-    let span-of = c .before .before .before .before .before .before .before .before .before .before .before .before .before .span-of in
-    let advance = c .before .before .before .before .before .before .before .before .before .before .before .before .before .before .advance in
-    let packed = c .before .before .before .before .before .before .before .before .before .before .before .before .before .before .before .before .before .before .packed in
-    let block-length = c .before .before .before .before .before .before .before .before .before .before .before .before .before .before .before .before .before .before .before .block-length in
-    let test1 = c .before .before .before .before .before .before .before .before .before .before .before .before .before .before .before .before .before .before .before .before .loop-test in
-    let loop = c .before .before .before .before .before .before .before .before .before .before .before .before .before .before .before .before .before .before .before .before .before .loop in
-    let array-of = c .before .before .before .before .before .before .before .before .before .before .before .before .before .before .before .before .before .before .before .before .before .before .before .array-of in
-    let args = c .before .before .before .before .before .before .before .before .before .before .before .before .before .before .before .before .before .before .before .before .before .before .before .before .before .before .before .before .before .args in
-    let o : Progress = record { front = loop .front; machine = machineIn (loop .places) (loop .counts); at = loop .at } in
-    let m = machineIn (loop3 .places) (loop2 .counts) in (
-      loop3 .inv .size (loop2 .inv .size),
-      feed-next (record { front = args .o .front; machine = machineIn (array-of .result) (args .o .machine .counts); at = args .o .at }) (args .recent .now) (args .base) (args .flags .now) (args .values .now) (args .out .now)
-          (loop .out) o (loop .done) (block-length .result) _ (packed .result) (record { front = advance .result; machine = m; at = loop3 .at }) (loop3 .out) (omega (arith, block-length .ensures .1 .1 .0, test1 .taken)) refl (packed .ensures)
-          (block-law o (packed .result) (block-length .result) _ (args .recent .now) (args .base) (args .values .now) (loop .out) (advance .result) (span-of .result) m (loop3 .at) (loop3 .out) (advance .ensures) (span-of .ensures)
+    let span-of = c .before .before .before .before .before .before .before .before .before .before .before .before .before .before .span-of in
+    let advance = c .before .before .before .before .before .before .before .before .before .before .before .before .before .before .before .advance in
+    let packed = c .before .before .before .before .before .before .before .before .before .before .before .before .before .before .before .before .before .before .before .packed in
+    let block-length = c .before .before .before .before .before .before .before .before .before .before .before .before .before .before .before .before .before .before .before .before .block-length in
+    let test1 = c .before .before .before .before .before .before .before .before .before .before .before .before .before .before .before .before .before .before .before .before .before .loop-test in
+    let loop = c .before .before .before .before .before .before .before .before .before .before .before .before .before .before .before .before .before .before .before .before .before .before .loop in
+    let all-four = c .before .before .before .before .before .before .before .before .before .before .before .before .before .before .before .before .before .before .before .before .before .before .before .before .all-four in
+    let args = c .before .before .before .before .before .before .before .before .before .before .before .before .before .before .before .before .before .before .before .before .before .before .before .before .before .before .before .before .before .before .args in
+    let o : Progress = record { front = loop .front; places = loop .places; counts = loop .counts; at = loop .at } in (
+      loop3 .inv .size (loop2 .inv .0 .size),
+      feed-next (record { front = args .o .front; places = all-four .result; counts = args .o .counts; at = args .o .at }) (args .recent .now) (args .base) (args .flags .now) (args .values .now) (args .out .now)
+          (loop .out) o (loop .done) (block-length .result) _ (packed .result) (record { front = advance .result; places = loop3 .places; counts = loop2 .counts; at = loop3 .at }) (loop3 .out) (omega (arith, block-length .ensures .1 .1 .0, test1 .taken)) refl (packed .ensures)
+          (block-law o (packed .result) (block-length .result) _ (args .recent .now) (args .base) (args .values .now) (loop .out) (advance .result) (span-of .result) (loop3 .places) (loop2 .counts) (loop3 .at) (loop3 .out) (advance .ensures) (span-of .ensures)
           (end-works (machineIn (loop .places) (loop .counts)) (span-of .result) (block-length .result) _ (args .recent .now) (args .base) (args .values .now) (loop .at) (loop .out) (loop3 .out) (loop3 .places) (loop2 .counts) (loop3 .at)
-          (loop3 .inv .ends (machineIn (loop .places) (loop .counts)) (span-of .result) (loop .at) (loop .out) (end-start (machineIn (loop .places) (loop .counts)) (span-of .result) (block-length .result) _ (args .recent .now) (args .base) (args .values .now) (loop .at) (loop .out) (loop2 .out) (loop2 .places) (loop2 .on) (loop2 .risk) (loop2 .counts) (loop2 .at) (loop2 .todo) (loop2 .from) (loop2 .inv) (test2 .left)))
+          (loop3 .inv .ends (machineIn (loop .places) (loop .counts)) (span-of .result) (loop .at) (loop .out) (end-start (machineIn (loop .places) (loop .counts)) (span-of .result) (block-length .result) _ (args .recent .now) (args .base) (args .values .now) (loop .at) (loop .out) (loop2 .out) (loop2 .places) (loop2 .on) (loop2 .risk) (loop2 .counts) (loop2 .at) (loop2 .todo) (loop2 .from) (loop2 .inv .0) (test2 .left)))
           (sym (none-due2 .ensures) ∙ not-false _ (if13 .left))))
           (loop .inv .1),
     )
 
-array-copy-out-hand-one-2 :
-    tie.Need-array-copy-out-hand-one-2 Inv-loop2 μ-loop2 Inv-loop3 μ-loop3 Inv-loop μ-loop
-array-copy-out-hand-one-2 c = search needs
-
-sub-t149 : tie.Need-sub-t149 Inv-loop2 μ-loop2 Inv-loop3 μ-loop3 Inv-loop μ-loop
-sub-t149 c =
+sub-last : tie.Need-sub-last Inv-loop2 μ-loop2 Inv-loop3 μ-loop3 Inv-loop μ-loop
+sub-last c =
     let if13 = c .before .if13 in
     let none-due2 = c .before .before .none-due2 in
     let loop3 = c .before .before .before .before .loop3 in
     due-over (getD (loop3 .places) 0 idle) _ (sym (none-due2 .ensures) ∙ not-true _ (if13 .taken)) .0
+
+array-copy-out-hand-one-2 :
+    tie.Need-array-copy-out-hand-one-2 Inv-loop2 μ-loop2 Inv-loop3 μ-loop3 Inv-loop μ-loop
+array-copy-out-hand-one-2 c = search needs
 
 hand-one-requires-2 :
     tie.Need-hand-one-requires-2 Inv-loop2 μ-loop2 Inv-loop3 μ-loop3 Inv-loop μ-loop
@@ -781,12 +823,12 @@ loop3-less c =
     let kept9 = c .before .kept9 in
     let kept8 = c .before .before .before .kept8 in
     let kept7 = c .before .before .before .before .before .kept7 in
-    let if13 = c .before .before .before .before .before .before .before .before .before .before .before .before .if13 in
-    let none-due2 = c .before .before .before .before .before .before .before .before .before .before .before .before .before .none-due2 in
-    let loop3 = c .before .before .before .before .before .before .before .before .before .before .before .before .before .before .before .loop3 in
-    let block-length = c .before .before .before .before .before .before .before .before .before .before .before .before .before .before .before .before .before .before .before .before .before .before .before .before .before .before .before .before .before .before .before .block-length in
-    let loop = c .before .before .before .before .before .before .before .before .before .before .before .before .before .before .before .before .before .before .before .before .before .before .before .before .before .before .before .before .before .before .before .before .before .loop in
-    let args = c .before .before .before .before .before .before .before .before .before .before .before .before .before .before .before .before .before .before .before .before .before .before .before .before .before .before .before .before .before .before .before .before .before .before .before .before .before .before .before .before .before .args in
+    let if13 = c .before .before .before .before .before .before .before .before .before .before .before .before .before .if13 in
+    let none-due2 = c .before .before .before .before .before .before .before .before .before .before .before .before .before .before .none-due2 in
+    let loop3 = c .before .before .before .before .before .before .before .before .before .before .before .before .before .before .before .before .loop3 in
+    let block-length = c .before .before .before .before .before .before .before .before .before .before .before .before .before .before .before .before .before .before .before .before .before .before .before .before .before .before .before .before .before .before .before .before .before .block-length in
+    let loop = c .before .before .before .before .before .before .before .before .before .before .before .before .before .before .before .before .before .before .before .before .before .before .before .before .before .before .before .before .before .before .before .before .before .before .before .loop in
+    let args = c .before .before .before .before .before .before .before .before .before .before .before .before .before .before .before .before .before .before .before .before .before .before .before .before .before .before .before .before .before .before .before .before .before .before .before .before .before .before .before .before .before .before .before .args in
     hand-less (ended (args .base + (loop .done + block-length .result) - 179)) (loop3 .places) _ (due-over (getD (loop3 .places) 0 idle) _ (sym (none-due2 .ensures) ∙ not-true _ (if13 .taken)) .1) (four-places _ _ _ _ _ _ _ _ (kept7 .ensures) (kept8 .ensures) (kept9 .ensures) (idle-place3 .ensures))
 
 loop3-again : tie.Need-loop3-again Inv-loop2 μ-loop2 Inv-loop3 μ-loop3 Inv-loop μ-loop
@@ -796,32 +838,26 @@ loop3-again c =
     let kept8 = c .before .before .before .kept8 in
     let kept7 = c .before .before .before .before .before .kept7 in
     let hand-one2 = c .before .before .before .before .before .before .before .before .before .hand-one2 in
-    let if13 = c .before .before .before .before .before .before .before .before .before .before .before .before .if13 in
-    let none-due2 = c .before .before .before .before .before .before .before .before .before .before .before .before .before .none-due2 in
-    let loop3 = c .before .before .before .before .before .before .before .before .before .before .before .before .before .before .before .loop3 in
-    let loop2 = c .before .before .before .before .before .before .before .before .before .before .before .before .before .before .before .before .before .loop2 in
-    let block-length = c .before .before .before .before .before .before .before .before .before .before .before .before .before .before .before .before .before .before .before .before .before .before .before .before .before .before .before .before .before .before .before .block-length in
-    let args = c .before .before .before .before .before .before .before .before .before .before .before .before .before .before .before .before .before .before .before .before .before .before .before .before .before .before .before .before .before .before .before .before .before .before .before .before .before .before .before .before .before .args in
+    let if13 = c .before .before .before .before .before .before .before .before .before .before .before .before .before .if13 in
+    let none-due2 = c .before .before .before .before .before .before .before .before .before .before .before .before .before .before .none-due2 in
+    let loop3 = c .before .before .before .before .before .before .before .before .before .before .before .before .before .before .before .before .loop3 in
+    let loop2 = c .before .before .before .before .before .before .before .before .before .before .before .before .before .before .before .before .before .before .loop2 in
+    let block-length = c .before .before .before .before .before .before .before .before .before .before .before .before .before .before .before .before .before .before .before .before .before .before .before .before .before .before .before .before .before .before .before .before .before .block-length in
+    let args = c .before .before .before .before .before .before .before .before .before .before .before .before .before .before .before .before .before .before .before .before .before .before .before .before .before .before .before .before .before .before .before .before .before .before .before .before .before .before .before .before .before .before .before .args in
     hands-more (block-length .result) _ (args .recent .now) (args .base) (args .values .now) (loop2 .counts) (loop2 .out) (loop2 .places) (loop2 .at) (loop3 .out) (loop3 .places) (loop3 .at) (loop3 .inv) (sym (none-due2 .ensures) ∙ not-true _ (if13 .taken)) (hand-one2 .result) _ (hand-one2 .kept .1 .1 .0) (hand-one2 .ensures) _ (four-places _ _ _ _ _ _ _ _ (kept7 .ensures) (kept8 .ensures) (kept9 .ensures) (idle-place3 .ensures))
-
-places-of-requires :
-    tie.Need-places-of-requires Inv-loop2 μ-loop2 Inv-loop3 μ-loop3 Inv-loop μ-loop
-places-of-requires c κs = search needs
 
 same-length : tie.Need-same-length Inv-loop2 μ-loop2 Inv-loop3 μ-loop3 Inv-loop μ-loop
 same-length c = search needs
 
 returns : tie.Need-returns Inv-loop2 μ-loop2 Inv-loop3 μ-loop3 Inv-loop μ-loop
 returns c =
-    let places-of = c .places-of in
-    let test1 = c .before .loop-test in
-    let loop = c .before .before .loop in
-    let array-of = c .before .before .before .before .array-of in
-    let args = c .before .before .before .before .before .before .before .before .before .before .args in
-    let k = feed-end (record { front = args .o .front; machine = machineIn (array-of .result) (args .o .machine .counts); at = args .o .at }) (args .recent .now) (args .base) (args .flags .now) (args .values .now) (args .out .now)
-    (loop .out) (record { front = loop .front; machine = machineIn (loop .places) (loop .counts); at = loop .at }) (loop .done) (test1 .left) (loop .inv .1) in
-    subst (λ (l : List Place). BlocksPost (record { front = args .o .front; machine = machineIn l (args .o .machine .counts); at = args .o .at }) (args .recent .now) (args .base) (args .flags .now) (args .values .now) (args .out .now) (record { front = loop .front; machine = record { places = (places-of .result); counts = loop .counts }; at = loop .at }) (loop .out)) (array-of .ensures)
-    (subst (λ (f : Places). BlocksPost (record { front = args .o .front; machine = machineIn (array-of .result) (args .o .machine .counts); at = args .o .at }) (args .recent .now) (args .base) (args .flags .now) (args .values .now) (args .out .now) (record { front = loop .front; machine = record { places = f; counts = loop .counts }; at = loop .at }) (loop .out)) (sym (places-of .ensures)) k)
+    let test1 = c .loop-test in
+    let loop = c .before .loop in
+    let all-four = c .before .before .before .all-four in
+    let args = c .before .before .before .before .before .before .before .before .before .args in
+    subst (λ (l : List Place). BlocksPost (record { front = args .o .front; places = l; counts = args .o .counts; at = args .o .at }) (args .recent .now) (args .base) (args .flags .now) (args .values .now) (args .out .now) (record { front = loop .front; places = loop .places; counts = loop .counts; at = loop .at }) (loop .out)) (all-four .ensures .0)
+    (feed-end (record { front = args .o .front; places = all-four .result; counts = args .o .counts; at = args .o .at }) (args .recent .now) (args .base) (args .flags .now) (args .values .now) (args .out .now)
+    (loop .out) (record { front = loop .front; places = loop .places; counts = loop .counts; at = loop .at }) (loop .done) (test1 .left) (loop .inv .1))
 
 pub work-spec : {M : Type 1} → statement M
 work-spec =
@@ -833,14 +869,14 @@ work-spec =
     μ-loop3
     Inv-loop
     μ-loop
-    array-of-requires
+    all-four-requires
     loop-holds
     sub-block-length
     block-length-requires
     packed-requires
     add-done
-    cast-t
-    add-t
+    cast-taken
+    add-taken
     array-copy-out-stays
     stays-requires
     loop-less
@@ -855,6 +891,7 @@ work-spec =
     loop-less-2
     loop-again-2
     covers-of-requires
+    twice-requires
     risks-of-requires
     wanted-requires
     cast-from
@@ -874,13 +911,15 @@ work-spec =
     kept-requires-3
     idle-place-requires
     without-word-requires
+    twice-requires-2
     without-word-requires-2
     loop2-less
     loop2-again
     edge-at-requires
-    framed-requires
-    second-at-requires
+    has-bracket-requires
+    second-tick-requires
     firsts-of-requires
+    second-main-requires
     is-busy-requires
     outcome-of-requires
     counted-requires
@@ -899,22 +938,24 @@ work-spec =
     kept-requires-6
     idle-place-requires-2
     without-word-requires-3
+    twice-requires-3
     without-word-requires-4
     loop2-less-2
     loop2-again-2
     opens-requires
+    second-at-requires
     opened-requires
     free-requires
     mul-places
     array-set-from-places
     open-cover-requires
     with-word-requires
+    twice-requires-4
     open-phantom-requires
     with-word-requires-2
     above-requires
     wanted-requires-2
     without-lowest-requires
-    twice-requires
     marked-requires
     agreement-of-requires
     marked-requires-2
@@ -950,8 +991,8 @@ work-spec =
     none-due-requires-2
     loop-less-3
     loop-again-3
+    sub-last
     array-copy-out-hand-one-2
-    sub-t149
     hand-one-requires-2
     array-copy-out-kept-7
     kept-requires-7
@@ -962,6 +1003,5 @@ work-spec =
     idle-place-requires-3
     loop3-less
     loop3-again
-    places-of-requires
     same-length
     returns)

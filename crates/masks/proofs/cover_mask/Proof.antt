@@ -10,45 +10,41 @@ use Rattle.masks.proofs.cover_mask.Lts as lts
 use Rattle.masks.proofs.across.Reads as across-reads
 use Rattle.masks.proofs.cover_word.Reads as cover-word-reads
 
--- src/masks.rt:50:9
 returns : tie.Need-returns
-returns c = cover-none (c .before .args .q) (c .before .args .t) (λ i u l z. omega arith)
+returns c =
+    let a = c .before .before .args in
+    cover-none (a .q .0) (a .t .0) (λ i u l z. omega arith)
 
--- src/masks.rt:52:12
 add-if2 : tie.Need-add-if2
 add-if2 c = search needs
 
--- src/masks.rt:53:9
 returns-2 : tie.Need-returns-2
-returns-2 c = cover-none (c .before .before .args .q) (c .before .before .args .t) (λ i u l z. omega arith)
+returns-2 c =
+    let a = c .before .before .before .before .before .args in
+    cover-none (a .q .0) (a .t .0) (λ i u l z. omega arith)
 
--- src/masks.rt:55:13
 sub-g : tie.Need-sub-g
 sub-g c = search needs
 
--- src/masks.rt:55:13
 sub-g-2 : tie.Need-sub-g-2
 sub-g-2 c = search needs
 
--- src/masks.rt:56:9
 cover-word-requires : tie.Need-cover-word-requires
 cover-word-requires c κs = search needs
 
--- src/masks.rt:57:24
 add-cover-word : tie.Need-add-cover-word
 add-cover-word c = search needs
 
--- src/masks.rt:57:9
 cover-word-requires-2 : tie.Need-cover-word-requires-2
 cover-word-requires-2 c κs = search needs
 
--- src/masks.rt:58:5
 across-requires : tie.Need-across-requires
 across-requires c κs = search needs
 
--- src/masks.rt:45:1
 returns-3 : tie.Need-returns-3
-returns-3 c = cover-mask-law (c .before .before .before .before .before .args .q) (c .before .before .before .before .before .args .t) (c .before .before .before .before .before .args .t - c .before .before .before .before .before .args .q - 177) _ _ _ (omega arith) refl (c .before .before .cover-word .ensures) (c .before .cover-word2 .ensures) (c .across .ensures)
+returns-3 c =
+    let a = c .before .before .before .before .before .before .before .before .before .before .args in
+    cover-mask-law (a .q .0) (a .t .0) (a .t .0 - a .q .0 - 177) _ _ _ (omega arith) refl (c .before .before .cover-word .ensures) (c .before .cover-word2 .ensures) (c .across .ensures)
 
 pub cover-mask-spec : {M : Type 1} → statement M
 cover-mask-spec =

@@ -6,23 +6,18 @@ use Rattle.masks.proofs.cover_word.Tie as tie
 use Rattle.masks.proofs.cover_word.Reads as reads
 use Rattle.masks.proofs.cover_word.Lts as lts
 
--- src/masks.rt:9:1
 returns : tie.Need-returns
 returns c = ap coverWord (sym (c .match .keys1))
 
--- src/masks.rt:9:1
 returns-2 : tie.Need-returns-2
 returns-2 c = ap coverWord (sym (c .match .keys2))
 
--- src/masks.rt:9:1
 returns-3 : tie.Need-returns-3
 returns-3 c = ap coverWord (sym (c .match .keys3))
 
--- src/masks.rt:9:1
 returns-4 : tie.Need-returns-4
 returns-4 c = ap coverWord (sym (c .match .keys4))
 
--- src/masks.rt:9:1
 returns-5 : tie.Need-returns-5
 returns-5 c = cover-rest (c .before .args .k) (c .match .rest .0 .0 .0 .1) (c .match .rest .0 .0 .1) (c .match .rest .0 .1) (c .match .rest .1)
 

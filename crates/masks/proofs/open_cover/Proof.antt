@@ -5,15 +5,12 @@ use Rattle.masks.proofs.open_cover.Tie as tie
 use Rattle.masks.proofs.open_cover.Reads as reads
 use Rattle.masks.proofs.open_cover.Lts as lts
 
--- src/masks.rt:86:6
 shl-result : tie.Need-shl-result
 shl-result c = search needs
 
--- src/masks.rt:86:35
 shl-result-2 : tie.Need-shl-result-2
 shl-result-2 c = search needs
 
--- src/masks.rt:82:1
 returns : tie.Need-returns
 returns c = λ q t z. open-cover-law (c .args .i) q t (c .pre) z
 

@@ -6,17 +6,16 @@ use Rattle.masks.proofs.open_phantom.Tie as tie
 use Rattle.masks.proofs.open_phantom.Reads as reads
 use Rattle.masks.proofs.open_phantom.Lts as lts
 
--- src/masks.rt:95:9
 returns : tie.Need-returns
 returns c = λ q t z. no-suspect q t (c .before .args .suspect) (not-true _ (c .if1 .taken))
 
--- src/masks.rt:97:5
 shl-result : tie.Need-shl-result
 shl-result c = search needs
 
--- src/masks.rt:90:1
 returns-2 : tie.Need-returns-2
-returns-2 c = λ q t z. open-phantom-law (c .before .args .i) q t (c .before .args .suspect) (not-false _ (c .if1 .left)) (c .before .pre) z
+returns-2 c =
+    let a = c .before .args in
+    λ q t z. open-phantom-law (a .i) q t (a .suspect) (not-false _ (c .if1 .left)) (c .before .pre) z
 
 pub open-phantom-spec : {M : Type 1} → statement M
 open-phantom-spec = tie.close (tie.spec returns shl-result returns-2)

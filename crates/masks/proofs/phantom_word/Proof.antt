@@ -6,19 +6,15 @@ use Rattle.masks.proofs.phantom_word.Tie as tie
 use Rattle.masks.proofs.phantom_word.Reads as reads
 use Rattle.masks.proofs.phantom_word.Lts as lts
 
--- src/masks.rt:22:1
 returns : tie.Need-returns
 returns c = ap phantomWord (sym (c .match .keys1))
 
--- src/masks.rt:22:1
 returns-2 : tie.Need-returns-2
 returns-2 c = ap phantomWord (sym (c .match .keys2))
 
--- src/masks.rt:22:1
 returns-3 : tie.Need-returns-3
 returns-3 c = ap phantomWord (sym (c .match .keys3))
 
--- src/masks.rt:22:1
 returns-4 : tie.Need-returns-4
 returns-4 c = phantom-rest (c .before .args .k) (c .match .rest .0 .0 .1) (c .match .rest .0 .1) (c .match .rest .1)
 

@@ -14,7 +14,9 @@ four-requires-2 : tie.Need-four-requires-2
 four-requires-2 c κs = search needs
 
 returns : tie.Need-returns
-returns c = eight-is (c .before .before .before .args .flags .now) (c .before .before .before .args .o) (c .before .four .ensures) (c .four2 .ensures)
+returns c =
+    let a = c .before .before .before .args in
+    eight-is (a .flags .now) (a .o) (c .before .four .ensures) (c .four2 .ensures)
 
 pub eight-spec : {M : Type 1} → statement M
 eight-spec = tie.close (tie.spec four-requires add-four four-requires-2 returns)

@@ -21,9 +21,10 @@ low4-requires c κs = search needs
 returns : tie.Need-returns
 unfolding nibbled
 returns c =
+    let a = c .before .before .before .before .args in
     record {
-      reads = c .low4 .ensures .reads (bytes (c .before .before .before .before .args .flags .now) (c .before .before .before .before .args .o)) (λ i. i) (λ i. 256 + i)
-          (c .before .before .eight .ensures .reads) (moved (c .before .before .before .before .args .flags .now) (c .before .before .before .before .args .o) 32 (c .before .eight2 .ensures .reads));
+      reads = c .low4 .ensures .reads (bytes (a .flags .now) (a .o)) (λ i. i) (λ i. 256 + i)
+          (c .before .before .eight .ensures .reads) (moved (a .flags .now) (a .o) 32 (c .before .eight2 .ensures .reads));
     }
 
 pub nibbles-spec : {M : Type 1} → statement M

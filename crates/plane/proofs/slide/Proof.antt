@@ -6,7 +6,9 @@ use Rattle.plane.proofs.slide.Statement.{statement}
 use Rattle.plane.proofs.slide.Tie as tie
 
 returns : tie.Need-returns
-returns c = record { holds = λ F b p q. holds-next F b (c .before .args .now) (c .before .args .r) (omega arith) (omega arith) q }
+returns c =
+    let a = c .before .args in
+    record { holds = λ F b p q. holds-next F b (a .now) (a .r) (omega arith) (omega arith) q }
 
 sub-result : tie.Need-sub-result
 sub-result c = search needs
@@ -27,7 +29,9 @@ shr-result : tie.Need-shr-result
 shr-result c = search needs
 
 returns-2 : tie.Need-returns-2
-returns-2 c = record { holds = λ F b q p. holds-slide (c .before .args .now) (c .before .args .r) (omega arith) (omega arith) p q }
+returns-2 c =
+    let a = c .before .args in
+    record { holds = λ F b q p. holds-slide (a .now) (a .r) (omega arith) (omega arith) p q }
 
 pub slide-spec : {M : Type 1} → statement M
 slide-spec =

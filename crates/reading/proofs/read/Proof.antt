@@ -14,85 +14,115 @@ use Rattle.characters.proofs.byte_at.Reads as byte-at-reads
 use Rattle.reading.proofs.samples.fill.Reads as fill-reads
 use Rattle.reading.proofs.well_formed.Reads as well-formed-reads
 
--- src/lib.rt:91:9
 well-formed-requires : tie.Need-well-formed-requires
 well-formed-requires c κs = search needs
 
--- src/lib.rt:92:9
 returns : tie.Need-returns
-returns c = read-9 (c .before .before .before .args .line .now) (c .before .before .before .args .flags .now) (c .before .before .before .args .values .now) (sym (c .before .well-formed .ensures) ∙ not-true _ (c .if1 .taken))
+returns c =
+    let a = c .before .before .before .args in
+    read-9 (a .line .now) (a .flags .now) (a .values .now) (sym (c .before .well-formed .ensures) ∙ not-true _ (c .if1 .taken))
 
--- src/lib.rt:94:13
 sub-m : tie.Need-sub-m
 sub-m c = omega (arith, formed (c .before .before .before .args .line .now) (sym (c .before .well-formed .ensures) ∙ not-false _ (c .if1 .left)) .two)
 
--- src/lib.rt:95:9
 byte-at-requires : tie.Need-byte-at-requires
-byte-at-requires c κs = two-digits (c .before .before .before .args .line .now) (length (c .before .before .before .args .line .now) - 1) 0 (formed (c .before .before .before .args .line .now) (sym (c .before .well-formed .ensures) ∙ not-false _ (c .if1 .left)) .all) (omega (arith, formed (c .before .before .before .args .line .now) (sym (c .before .well-formed .ensures) ∙ not-false _ (c .if1 .left)) .two, formed (c .before .before .before .args .line .now) (sym (c .before .well-formed .ensures) ∙ not-false _ (c .if1 .left)) .odd))
+byte-at-requires c κs =
+    let wellformed = c .before .well-formed in
+    let a = c .before .before .before .args in
+    two-digits (a .line .now) (length (a .line .now) - 1) 0 (formed (a .line .now) (sym (wellformed .ensures) ∙ not-false _ (c .if1 .left)) .all) (omega (arith, formed (a .line .now) (sym (wellformed .ensures) ∙ not-false _ (c .if1 .left)) .two, formed (a .line .now) (sym (wellformed .ensures) ∙ not-false _ (c .if1 .left)) .odd))
 
--- src/lib.rt:98:13
 returns-2 : tie.Need-returns-2
-returns-2 c = read-open-10 (c .before .before .before .before .before .before .args .line .now) (c .before .before .before .before .before .before .args .flags .now) (c .before .before .before .before .before .before .args .values .now) (sym (c .before .before .before .before .well-formed .ensures) ∙ not-false _ (c .before .before .before .if1 .left)) (formed (c .before .before .before .before .before .before .args .line .now) (sym (c .before .before .before .before .well-formed .ensures) ∙ not-false _ (c .before .before .before .if1 .left))) (sym (c .before .before .byte-at .ensures) ∙ c .before .if2 .taken) (c .if3 .taken)
+returns-2 c =
+    let if1 = c .before .before .before .if1 in
+    let wellformed = c .before .before .before .before .well-formed in
+    let a = c .before .before .before .before .before .before .args in
+    read-open-10 (a .line .now) (a .flags .now) (a .values .now) (sym (wellformed .ensures) ∙ not-false _ (if1 .left)) (formed (a .line .now) (sym (wellformed .ensures) ∙ not-false _ (if1 .left))) (sym (c .before .before .byte-at .ensures) ∙ c .before .if2 .taken) (c .if3 .taken)
 
--- src/lib.rt:100:20
 byte-at-requires-2 : tie.Need-byte-at-requires-2
-byte-at-requires-2 c κs = two-digits (c .before .before .before .before .before .before .args .line .now) (length (c .before .before .before .before .before .before .args .line .now) - 1) 4 (formed (c .before .before .before .before .before .before .args .line .now) (sym (c .before .before .before .before .well-formed .ensures) ∙ not-false _ (c .before .before .before .if1 .left)) .all) (omega (arith, formed (c .before .before .before .before .before .before .args .line .now) (sym (c .before .before .before .before .well-formed .ensures) ∙ not-false _ (c .before .before .before .if1 .left)) .two, formed (c .before .before .before .before .before .before .args .line .now) (sym (c .before .before .before .before .well-formed .ensures) ∙ not-false _ (c .before .before .before .if1 .left)) .odd, c .if3 .left))
+byte-at-requires-2 c κs =
+    let if1 = c .before .before .before .if1 in
+    let wellformed = c .before .before .before .before .well-formed in
+    let a = c .before .before .before .before .before .before .args in
+    two-digits (a .line .now) (length (a .line .now) - 1) 4 (formed (a .line .now) (sym (wellformed .ensures) ∙ not-false _ (if1 .left)) .all) (omega (arith, formed (a .line .now) (sym (wellformed .ensures) ∙ not-false _ (if1 .left)) .two, formed (a .line .now) (sym (wellformed .ensures) ∙ not-false _ (if1 .left)) .odd, c .if3 .left))
 
--- src/lib.rt:100:20
 cast-high : tie.Need-cast-high
 cast-high c = search needs
 
--- src/lib.rt:101:19
 byte-at-requires-3 : tie.Need-byte-at-requires-3
-byte-at-requires-3 c κs = two-digits (c .before .before .before .before .before .before .before .args .line .now) (length (c .before .before .before .before .before .before .before .args .line .now) - 1) 6 (formed (c .before .before .before .before .before .before .before .args .line .now) (sym (c .before .before .before .before .before .well-formed .ensures) ∙ not-false _ (c .before .before .before .before .if1 .left)) .all) (omega (arith, formed (c .before .before .before .before .before .before .before .args .line .now) (sym (c .before .before .before .before .before .well-formed .ensures) ∙ not-false _ (c .before .before .before .before .if1 .left)) .two, formed (c .before .before .before .before .before .before .before .args .line .now) (sym (c .before .before .before .before .before .well-formed .ensures) ∙ not-false _ (c .before .before .before .before .if1 .left)) .odd, c .before .if3 .left))
+byte-at-requires-3 c κs =
+    let if1 = c .before .before .before .before .if1 in
+    let wellformed = c .before .before .before .before .before .well-formed in
+    let a = c .before .before .before .before .before .before .before .args in
+    two-digits (a .line .now) (length (a .line .now) - 1) 6 (formed (a .line .now) (sym (wellformed .ensures) ∙ not-false _ (if1 .left)) .all) (omega (arith, formed (a .line .now) (sym (wellformed .ensures) ∙ not-false _ (if1 .left)) .two, formed (a .line .now) (sym (wellformed .ensures) ∙ not-false _ (if1 .left)) .odd, c .before .if3 .left))
 
--- src/lib.rt:101:19
 cast-low : tie.Need-cast-low
 cast-low c = search needs
 
--- src/lib.rt:102:27
 byte-at-requires-4 : tie.Need-byte-at-requires-4
-byte-at-requires-4 c κs = two-digits (c .before .before .before .before .before .before .before .before .args .line .now) (length (c .before .before .before .before .before .before .before .before .args .line .now) - 1) 2 (formed (c .before .before .before .before .before .before .before .before .args .line .now) (sym (c .before .before .before .before .before .before .well-formed .ensures) ∙ not-false _ (c .before .before .before .before .before .if1 .left)) .all) (omega (arith, formed (c .before .before .before .before .before .before .before .before .args .line .now) (sym (c .before .before .before .before .before .before .well-formed .ensures) ∙ not-false _ (c .before .before .before .before .before .if1 .left)) .two, formed (c .before .before .before .before .before .before .before .before .args .line .now) (sym (c .before .before .before .before .before .before .well-formed .ensures) ∙ not-false _ (c .before .before .before .before .before .if1 .left)) .odd, c .before .before .if3 .left))
+byte-at-requires-4 c κs =
+    let if1 = c .before .before .before .before .before .if1 in
+    let wellformed = c .before .before .before .before .before .before .well-formed in
+    let a = c .before .before .before .before .before .before .before .before .args in
+    two-digits (a .line .now) (length (a .line .now) - 1) 2 (formed (a .line .now) (sym (wellformed .ensures) ∙ not-false _ (if1 .left)) .all) (omega (arith, formed (a .line .now) (sym (wellformed .ensures) ∙ not-false _ (if1 .left)) .two, formed (a .line .now) (sym (wellformed .ensures) ∙ not-false _ (if1 .left)) .odd, c .before .before .if3 .left))
 
--- src/lib.rt:102:45
 mul-t14 : tie.Need-mul-t14
 mul-t14 c = search needs
 
--- src/lib.rt:102:45
 add-t15 : tie.Need-add-t15
 add-t15 c = search needs
 
--- src/lib.rt:102:9
 returns-3 : tie.Need-returns-3
-returns-3 c = read-open (c .before .before .before .before .before .before .before .before .before .args .line .now) (c .before .before .before .before .before .before .before .before .before .args .flags .now) (c .before .before .before .before .before .before .before .before .before .args .values .now) (sym (c .before .before .before .before .before .before .before .well-formed .ensures) ∙ not-false _ (c .before .before .before .before .before .before .if1 .left)) (formed (c .before .before .before .before .before .before .before .before .before .args .line .now) (sym (c .before .before .before .before .before .before .before .well-formed .ensures) ∙ not-false _ (c .before .before .before .before .before .before .if1 .left))) (sym (c .before .before .before .before .before .byte-at .ensures) ∙ c .before .before .before .before .if2 .taken) (c .before .before .before .if3 .left) _ _ _ (c .byte-at4 .ensures) (c .before .before .byte-at2 .ensures) (c .before .byte-at3 .ensures)
+returns-3 c =
+    let if1 = c .before .before .before .before .before .before .if1 in
+    let wellformed = c .before .before .before .before .before .before .before .well-formed in
+    let a = c .before .before .before .before .before .before .before .before .before .args in
+    read-open (a .line .now) (a .flags .now) (a .values .now) (sym (wellformed .ensures) ∙ not-false _ (if1 .left)) (formed (a .line .now) (sym (wellformed .ensures) ∙ not-false _ (if1 .left))) (sym (c .before .before .before .before .before .byte-at .ensures) ∙ c .before .before .before .before .if2 .taken) (c .before .before .before .if3 .left) _ _ _ (c .byte-at4 .ensures) (c .before .before .byte-at2 .ensures) (c .before .byte-at3 .ensures)
 
--- src/lib.rt:106:13
 returns-4 : tie.Need-returns-4
-returns-4 c = read-uneven (c .before .before .before .before .before .before .before .args .line .now) (c .before .before .before .before .before .before .before .args .flags .now) (c .before .before .before .before .before .before .before .args .values .now) (sym (c .before .before .before .before .before .well-formed .ensures) ∙ not-false _ (c .before .before .before .before .if1 .left)) (formed (c .before .before .before .before .before .before .before .args .line .now) (sym (c .before .before .before .before .before .well-formed .ensures) ∙ not-false _ (c .before .before .before .before .if1 .left))) (sym (c .before .before .before .byte-at .ensures) ∙ c .before .if4 .taken) (c .if5 .taken)
+returns-4 c =
+    let if1 = c .before .before .before .before .if1 in
+    let wellformed = c .before .before .before .before .before .well-formed in
+    let a = c .before .before .before .before .before .before .before .args in
+    read-uneven (a .line .now) (a .flags .now) (a .values .now) (sym (wellformed .ensures) ∙ not-false _ (if1 .left)) (formed (a .line .now) (sym (wellformed .ensures) ∙ not-false _ (if1 .left))) (sym (c .before .before .before .byte-at .ensures) ∙ c .before .if4 .taken) (c .if5 .taken)
 
--- src/lib.rt:109:13
 returns-5 : tie.Need-returns-5
-returns-5 c = read-none (c .before .before .before .before .before .before .before .before .args .line .now) (c .before .before .before .before .before .before .before .before .args .flags .now) (c .before .before .before .before .before .before .before .before .args .values .now) (sym (c .before .before .before .before .before .before .well-formed .ensures) ∙ not-false _ (c .before .before .before .before .before .if1 .left)) (formed (c .before .before .before .before .before .before .before .before .args .line .now) (sym (c .before .before .before .before .before .before .well-formed .ensures) ∙ not-false _ (c .before .before .before .before .before .if1 .left))) (sym (c .before .before .before .before .byte-at .ensures) ∙ c .before .before .if4 .taken) (omega (arith, c .if6 .taken)) (c .before .if5 .left)
+returns-5 c =
+    let if1 = c .before .before .before .before .before .if1 in
+    let wellformed = c .before .before .before .before .before .before .well-formed in
+    let a = c .before .before .before .before .before .before .before .before .args in
+    read-none (a .line .now) (a .flags .now) (a .values .now) (sym (wellformed .ensures) ∙ not-false _ (if1 .left)) (formed (a .line .now) (sym (wellformed .ensures) ∙ not-false _ (if1 .left))) (sym (c .before .before .before .before .byte-at .ensures) ∙ c .before .before .if4 .taken) (omega (arith, c .if6 .taken)) (c .before .if5 .left)
 
--- src/lib.rt:112:9
 fill-requires : tie.Need-fill-requires
 fill-requires c κs = (omega (arith, formed (c .before .before .before .before .before .before .before .before .before .before .args .line .now) (sym (c .before .before .before .before .before .before .before .before .well-formed .ensures) ∙ not-false _ (c .before .before .before .before .before .before .before .if1 .left)) .most), omega (arith, formed (c .before .before .before .before .before .before .before .before .before .before .args .line .now) (sym (c .before .before .before .before .before .before .before .before .well-formed .ensures) ∙ not-false _ (c .before .before .before .before .before .before .before .if1 .left)) .most), omega (arith, formed (c .before .before .before .before .before .before .before .before .before .before .args .line .now) (sym (c .before .before .before .before .before .before .before .before .well-formed .ensures) ∙ not-false _ (c .before .before .before .before .before .before .before .if1 .left)) .most), samples-digits (c .before .before .before .before .before .before .before .before .before .before .args .line .now) (formed (c .before .before .before .before .before .before .before .before .before .before .args .line .now) (sym (c .before .before .before .before .before .before .before .before .well-formed .ensures) ∙ not-false _ (c .before .before .before .before .before .before .before .if1 .left))) _ (c .before .before .before .if5 .left) refl)
 
--- src/lib.rt:113:9
 returns-6 : tie.Need-returns-6
-returns-6 c = read-samples (c .before .before .before .before .before .before .before .before .before .before .before .args .line .now) (c .before .before .before .before .before .before .before .before .before .before .before .args .flags .now) (c .before .before .before .before .before .before .before .before .before .before .before .args .values .now) (sym (c .before .before .before .before .before .before .before .before .before .well-formed .ensures) ∙ not-false _ (c .before .before .before .before .before .before .before .before .if1 .left)) (formed (c .before .before .before .before .before .before .before .before .before .before .before .args .line .now) (sym (c .before .before .before .before .before .before .before .before .before .well-formed .ensures) ∙ not-false _ (c .before .before .before .before .before .before .before .before .if1 .left))) (sym (c .before .before .before .before .before .before .before .byte-at .ensures) ∙ c .before .before .before .before .before .if4 .taken) (c .before .before .before .before .if5 .left) (omega (arith, c .before .before .before .if6 .left)) _ refl _ _ (c .fill .ensures)
+returns-6 c =
+    let if1 = c .before .before .before .before .before .before .before .before .if1 in
+    let wellformed = c .before .before .before .before .before .before .before .before .before .well-formed in
+    let a = c .before .before .before .before .before .before .before .before .before .before .before .args in
+    read-samples (a .line .now) (a .flags .now) (a .values .now) (sym (wellformed .ensures) ∙ not-false _ (if1 .left)) (formed (a .line .now) (sym (wellformed .ensures) ∙ not-false _ (if1 .left))) (sym (c .before .before .before .before .before .before .before .byte-at .ensures) ∙ c .before .before .before .before .before .if4 .taken) (c .before .before .before .before .if5 .left) (omega (arith, c .before .before .before .if6 .left)) _ refl _ _ (c .fill .ensures)
 
--- src/lib.rt:117:13
 returns-7 : tie.Need-returns-7
-returns-7 c = read-close-10 (c .before .before .before .before .before .before .before .before .args .line .now) (c .before .before .before .before .before .before .before .before .args .flags .now) (c .before .before .before .before .before .before .before .before .args .values .now) (sym (c .before .before .before .before .before .before .well-formed .ensures) ∙ not-false _ (c .before .before .before .before .before .if1 .left)) (formed (c .before .before .before .before .before .before .before .before .args .line .now) (sym (c .before .before .before .before .before .before .well-formed .ensures) ∙ not-false _ (c .before .before .before .before .before .if1 .left))) (sym (c .before .before .before .before .byte-at .ensures) ∙ c .before .if7 .taken) (c .if8 .taken)
+returns-7 c =
+    let if1 = c .before .before .before .before .before .if1 in
+    let wellformed = c .before .before .before .before .before .before .well-formed in
+    let a = c .before .before .before .before .before .before .before .before .args in
+    read-close-10 (a .line .now) (a .flags .now) (a .values .now) (sym (wellformed .ensures) ∙ not-false _ (if1 .left)) (formed (a .line .now) (sym (wellformed .ensures) ∙ not-false _ (if1 .left))) (sym (c .before .before .before .before .byte-at .ensures) ∙ c .before .if7 .taken) (c .if8 .taken)
 
--- src/lib.rt:119:9
 returns-8 : tie.Need-returns-8
-returns-8 c = read-close (c .before .before .before .before .before .before .before .before .args .line .now) (c .before .before .before .before .before .before .before .before .args .flags .now) (c .before .before .before .before .before .before .before .before .args .values .now) (sym (c .before .before .before .before .before .before .well-formed .ensures) ∙ not-false _ (c .before .before .before .before .before .if1 .left)) (formed (c .before .before .before .before .before .before .before .before .args .line .now) (sym (c .before .before .before .before .before .before .well-formed .ensures) ∙ not-false _ (c .before .before .before .before .before .if1 .left))) (sym (c .before .before .before .before .byte-at .ensures) ∙ c .before .if7 .taken) (c .if8 .left)
+returns-8 c =
+    let if1 = c .before .before .before .before .before .if1 in
+    let wellformed = c .before .before .before .before .before .before .well-formed in
+    let a = c .before .before .before .before .before .before .before .before .args in
+    read-close (a .line .now) (a .flags .now) (a .values .now) (sym (wellformed .ensures) ∙ not-false _ (if1 .left)) (formed (a .line .now) (sym (wellformed .ensures) ∙ not-false _ (if1 .left))) (sym (c .before .before .before .before .byte-at .ensures) ∙ c .before .if7 .taken) (c .if8 .left)
 
--- src/lib.rt:88:1
 returns-9 : tie.Need-returns-9
-returns-9 c = read-other (c .before .before .before .before .before .before .before .args .line .now) (c .before .before .before .before .before .before .before .args .flags .now) (c .before .before .before .before .before .before .before .args .values .now) (sym (c .before .before .before .before .before .well-formed .ensures) ∙ not-false _ (c .before .before .before .before .if1 .left)) (formed (c .before .before .before .before .before .before .before .args .line .now) (sym (c .before .before .before .before .before .well-formed .ensures) ∙ not-false _ (c .before .before .before .before .if1 .left))) (λ e. c .before .before .if2 .left (c .before .before .before .byte-at .ensures ∙ e)) (λ e. c .before .if4 .left (c .before .before .before .byte-at .ensures ∙ e)) (λ e. c .if7 .left (c .before .before .before .byte-at .ensures ∙ e))
+returns-9 c =
+    let byteat = c .before .before .before .byte-at in
+    let if1 = c .before .before .before .before .if1 in
+    let wellformed = c .before .before .before .before .before .well-formed in
+    let a = c .before .before .before .before .before .before .before .args in
+    read-other (a .line .now) (a .flags .now) (a .values .now) (sym (wellformed .ensures) ∙ not-false _ (if1 .left)) (formed (a .line .now) (sym (wellformed .ensures) ∙ not-false _ (if1 .left))) (λ e. c .before .before .if2 .left (byteat .ensures ∙ e)) (λ e. c .before .if4 .left (byteat .ensures ∙ e)) (λ e. c .if7 .left (byteat .ensures ∙ e))
 
 pub read-spec : {M : Type 1} → statement M
 read-spec =

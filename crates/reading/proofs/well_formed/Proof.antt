@@ -7,39 +7,30 @@ use Rattle.reading.proofs.well_formed.Reads as reads
 use Rattle.reading.proofs.well_formed.Lts as lts
 use Rattle.characters.proofs.are_digits.Reads as are-digits-reads
 
--- src/lib.rt:60:9
 returns : tie.Need-returns
 returns c = well-short (c .before .before .args .line .now) (omega (arith, c .if1 .taken))
 
--- src/lib.rt:63:9
 returns-2 : tie.Need-returns-2
 returns-2 c = well-long (c .before .before .before .args .line .now) (omega (arith, c .before .if1 .left)) (omega (arith, c .if2 .taken))
 
--- src/lib.rt:66:9
 returns-3 : tie.Need-returns-3
 returns-3 c = well-odd (c .before .before .before .before .args .line .now) (omega (arith, c .before .before .if1 .left)) (omega (arith, c .before .if2 .left)) (c .if3 .taken)
 
--- src/lib.rt:68:13
 sub-if4 : tie.Need-sub-if4
 sub-if4 c = search needs
 
--- src/lib.rt:68:8
 shared-slice-read-if4 : tie.Need-shared-slice-read-if4
 shared-slice-read-if4 c = omega (arith, c .before .before .before .if1 .left)
 
--- src/lib.rt:69:9
 returns-4 : tie.Need-returns-4
 returns-4 c = well-open (c .before .before .before .before .before .before .args .line .now) (omega (arith, c .before .before .before .before .if1 .left)) (omega (arith, c .before .before .before .if2 .left)) (c .before .before .if3 .left) (c .if4 .taken)
 
--- src/lib.rt:71:22
 sub-are-digits : tie.Need-sub-are-digits
 sub-are-digits c = search needs
 
--- src/lib.rt:71:5
 are-digits-requires : tie.Need-are-digits-requires
 are-digits-requires c κs = search needs
 
--- src/lib.rt:55:1
 returns-5 : tie.Need-returns-5
 returns-5 c = well-digits (c .before .before .before .before .before .before .before .args .line .now) (omega (arith, c .before .before .before .before .before .if1 .left)) (omega (arith, c .before .before .before .before .if2 .left)) (c .before .before .before .if3 .left) (c .before .if4 .left) _ (c .are-digits .ensures)
 

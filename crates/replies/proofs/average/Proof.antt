@@ -10,27 +10,21 @@ use Rattle.replies.proofs.level_of.Reads as level-of-reads
 use Rattle.replies.proofs.plus.Reads as plus-reads
 use Rattle.replies.proofs.wide.Reads as wide-reads
 
--- src/lib.rt:70:22
 level-of-requires : tie.Need-level-of-requires
 level-of-requires c κs = search needs
 
--- src/lib.rt:70:9
 averaged-requires : tie.Need-averaged-requires
 averaged-requires c κs = search needs
 
--- src/lib.rt:71:9
 plus-requires : tie.Need-plus-requires
 plus-requires c κs = search needs
 
--- src/lib.rt:72:23
 wide-requires : tie.Need-wide-requires
 wide-requires c κs = search needs
 
--- src/lib.rt:72:9
 plus-requires-2 : tie.Need-plus-requires-2
 plus-requires-2 c κs = search needs
 
--- src/lib.rt:66:1
 returns : tie.Need-returns
 returns c =
     let args = c .before .before .before .before .before .args in

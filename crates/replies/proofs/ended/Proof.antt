@@ -17,7 +17,9 @@ cast-result-2 : tie.Need-cast-result-2
 cast-result-2 c = search needs
 
 returns : tie.Need-returns
-returns c = λ r e. ended-is (c .before .before .args .q .0) (c .before .before .args .u .0) r (ap (λ (q : Tick). q .0) e)
+returns c =
+    let a = c .before .before .args in
+    λ r e. ended-is (a .q .0) (a .u .0) r (ap (λ (q : Tick). q .0) e)
 
 pub ended-spec : {M : Type 1} → statement M
 ended-spec = tie.close (tie.spec cast-result add-result cast-result-2 returns)

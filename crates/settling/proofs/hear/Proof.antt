@@ -1,5 +1,6 @@
 -- `settling::hear` meets its contract.
 use Rattle.settling.proofs.Hearing.{digit-most, heard-law}
+use native.Mathlib.Omega.{arith}
 use borrow.Author.Needs.{needs}
 use Rattle.settling.proofs.hear.Statement.{statement}
 use Rattle.settling.proofs.hear.Tie as tie
@@ -45,7 +46,8 @@ taken-in-requires c κs =
 returns : tie.Need-returns
 returns c =
     let a = c .before .before .before .before .before .before .before .before .before .before .before .before .before .before .args in
-    λ z. heard-law (a .r) (a .e) (a .own) (a .other) _ (c .before .before .before .before .before .before .before .before .before .before .position-of .ensures) _ (c .before .before .before .before .before .before .before .before .before .place .ensures .0) _ (c .before .before .before .before .before .before .before .before .fresh .ensures .0) _ _ (c .before .before .before .before .before .before .before .code-of .ensures) (c .before .before .before .before .before .before .sure-of .ensures) _ _ _ (c .before .before .before .before .before .pick .ensures) (c .before .before .before .before .pick2 .ensures) (c .before .before .pick3 .ensures) _ (c .before .before .before .settle-bit .ensures) _ (c .before .taken-in .ensures) z
+    let good = c .before .before .before .before .before .before .before .before .before .before .before .before .before .before .good in
+    heard-law (a .r) (a .e) (a .own) (a .other) (record { settled = omega (arith, good); code = omega (arith, good); unsure = omega (arith, good) }) _ (c .before .before .before .before .before .before .before .before .before .before .position-of .ensures) _ (c .before .before .before .before .before .before .before .before .before .place .ensures .0) _ (c .before .before .before .before .before .before .before .before .fresh .ensures .0) _ _ (c .before .before .before .before .before .before .before .code-of .ensures) (c .before .before .before .before .before .before .sure-of .ensures) _ _ _ (c .before .before .before .before .before .pick .ensures) (c .before .before .before .before .pick2 .ensures) (c .before .before .pick3 .ensures) _ (c .before .before .before .settle-bit .ensures) _ (c .before .taken-in .ensures)
 
 pub hear-spec : {M : Type 1} → statement M
 hear-spec =

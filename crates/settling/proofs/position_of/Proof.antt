@@ -1,6 +1,6 @@
 -- `settling::position_of` meets its contract.
 use native.Mathlib.Omega.{arith}
-use Rattle.settling.proofs.Hearing.{position-law}
+use Rattle.settling.proofs.Hearing.{number-law}
 use borrow.Author.Needs.{needs}
 use Rattle.settling.proofs.position_of.Statement.{statement}
 use Rattle.settling.proofs.position_of.Tie as tie
@@ -23,7 +23,7 @@ cast-result c = search needs
 returns : tie.Need-returns
 returns c =
     let a = c .before .before .before .args in
-    λ h. position-law (a .q .0) (a .u .0) (c .wrapping-sub-u64 .result) (omega arith) (omega arith) (omega arith) (c .wrapping-sub-u64 .ensures) h
+    number-law (a .q .0) (a .u .0) (c .wrapping-sub-u64 .result) (omega arith) (omega arith) (omega arith) (c .wrapping-sub-u64 .ensures)
 
 pub position-of-spec : {M : Type 1} → statement M
 position-of-spec =

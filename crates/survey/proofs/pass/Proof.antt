@@ -1,4 +1,4 @@
-use Rattle.carry.proofs.Carrying.{part-length}
+use Rattle.answers.proofs.Answering.{part-length}
 use native.Mathlib.Omega.{arith}
 use borrow.Author.Needs.{needs}
 use Rattle.survey.proofs.pass.Statement.{statement}
@@ -11,87 +11,66 @@ use Rattle.survey.proofs.more.Reads as more-reads
 use Rattle.survey.proofs.print.Reads as print-reads
 use Rattle.survey.proofs.report.Reads as report-reads
 
--- src/main.rt:146:9
 scan-lines-requires : tie.Need-scan-lines-requires
 scan-lines-requires c κs = search needs
 
--- src/main.rt:151:15
 slice-reshare-prefix-print : tie.Need-slice-reshare-prefix-print
 slice-reshare-prefix-print c = (omega (arith, c .before .before .before .scan-lines .ensures .inside (omega arith), c .before .before .output .given))
 
--- src/main.rt:151:15
 slice-aggregate-print : tie.Need-slice-aggregate-print
 slice-aggregate-print c = part-length _ _ (omega (arith, c .before .before .before .before .scan-lines .ensures .inside (omega arith), c .before .before .before .output .given))
 
--- src/main.rt:151:9
 print-requires : tie.Need-print-requires
 print-requires c κs = search needs
 
--- src/main.rt:152:9
 came-to-requires : tie.Need-came-to-requires
 came-to-requires c κs = search needs
 
--- src/main.rt:152:9
 same-length : tie.Need-same-length
 same-length c = search needs
 
--- src/main.rt:152:9
 returns : tie.Need-returns
 returns c = omega (arith, c .came-to .ensures, c .before .before .before .before .before .before .before .scan-lines .ensures .reach (c .before .before .before .before .before .before .before .before .before .before .before .pre))
 
--- src/main.rt:155:23
 enum-told : tie.Need-enum-told
 enum-told c = search needs
 
--- src/main.rt:155:23
 came-to-requires-2 : tie.Need-came-to-requires-2
 came-to-requires-2 c κs = search needs
 
--- src/main.rt:156:23
 enum-told-2 : tie.Need-enum-told-2
 enum-told-2 c = search needs
 
--- src/main.rt:156:23
 came-to-requires-3 : tie.Need-came-to-requires-3
 came-to-requires-3 c κs = search needs
 
--- src/main.rt:157:23
 enum-known-how : tie.Need-enum-known-how
 enum-known-how c = search needs
 
--- src/main.rt:158:28
 more-requires : tie.Need-more-requires
 more-requires c κs = search needs
 
--- src/main.rt:158:13
 report-requires : tie.Need-report-requires
 report-requires c κs = search needs
 
--- src/main.rt:159:13
 came-to-requires-4 : tie.Need-came-to-requires-4
 came-to-requires-4 c κs = search needs
 
--- src/main.rt:142:1
 same-length-2 : tie.Need-same-length-2
 same-length-2 c = search needs
 
--- src/main.rt:142:1
 returns-2 : tie.Need-returns-2
 returns-2 c = omega (arith, c .came-to2 .ensures, c .before .before .before .before .before .before .before .before .before .scan-lines .ensures .reach (c .before .before .before .before .before .before .before .before .before .before .before .before .before .pre))
 
--- src/main.rt:142:1
 same-length-3 : tie.Need-same-length-3
 same-length-3 c = search needs
 
--- src/main.rt:142:1
 returns-3 : tie.Need-returns-3
 returns-3 c = omega (arith, c .came-to3 .ensures, c .before .before .before .before .before .before .before .before .before .scan-lines .ensures .reach (c .before .before .before .before .before .before .before .before .before .before .before .before .before .pre))
 
--- src/main.rt:142:1
 same-length-4 : tie.Need-same-length-4
 same-length-4 c = search needs
 
--- src/main.rt:142:1
 returns-4 : tie.Need-returns-4
 returns-4 c = omega (arith, c .came-to4 .ensures, c .before .before .before .before .before .before .before .before .before .before .before .before .scan-lines .ensures .reach (c .before .before .before .before .before .before .before .before .before .before .before .before .before .before .before .before .pre))
 

@@ -7,7 +7,7 @@ use Rattle.survey.proofs.run.Tie as tie
 use Rattle.survey.proofs.run.Reads as reads
 use Rattle.survey.proofs.run.Lts as lts
 use Rattle.survey.proofs.turn.Reads as turn-reads
-use Rattle.sweep.proofs.idle.Reads as idle-reads
+use Rattle.processor.proofs.idle.Reads as idle-reads
 
 abbrev Inv-loop : tie.InvT-loop
 Inv-loop input₀ output₀ s₀ turns₀ input output s turns = (length input ≡ length input₀) × (length output ≡ length output₀)
@@ -15,51 +15,39 @@ Inv-loop input₀ output₀ s₀ turns₀ input output s turns = (length input �
 abbrev μ-loop : tie.MeasureT-loop
 μ-loop input₀ output₀ s₀ turns₀ input output s turns = turns
 
--- src/main.rt:183:20
 idle-requires : tie.Need-idle-requires Inv-loop μ-loop
 idle-requires c κs = search needs
 
--- src/main.rt:189:5
 loop-holds : tie.Need-loop-holds Inv-loop μ-loop
 loop-holds c = (refl, refl)
 
--- src/main.rt:191:13
 same-length : tie.Need-same-length Inv-loop μ-loop
 same-length c = c .before .before .loop .inv .0
 
--- src/main.rt:191:13
 same-length-2 : tie.Need-same-length-2 Inv-loop μ-loop
 same-length-2 c = c .before .before .loop .inv .1
 
--- src/main.rt:191:13
 returns : tie.Need-returns Inv-loop μ-loop
 returns c = search needs
 
--- src/main.rt:193:9
 turn-requires : tie.Need-turn-requires Inv-loop μ-loop
 turn-requires c κs = search needs
 
--- src/main.rt:194:9
 sub-turns : tie.Need-sub-turns Inv-loop μ-loop
 sub-turns c = omega arith
 
--- src/main.rt:189:5
 loop-less : tie.Need-loop-less Inv-loop μ-loop
 loop-less c = omega arith
 
--- src/main.rt:189:5
 loop-again : tie.Need-loop-again Inv-loop μ-loop
 loop-again c = (omega (arith, c .before .before .before .input .given, c .before .before .before .before .before .before .before .before .before .loop .inv .0), omega (arith, c .before .output .given, c .before .before .before .before .before .before .before .before .before .loop .inv .1))
 
--- src/main.rt:181:1
 same-length-3 : tie.Need-same-length-3 Inv-loop μ-loop
 same-length-3 c = c .before .loop .inv .0
 
--- src/main.rt:181:1
 same-length-4 : tie.Need-same-length-4 Inv-loop μ-loop
 same-length-4 c = c .before .loop .inv .1
 
--- src/main.rt:181:1
 returns-2 : tie.Need-returns-2 Inv-loop μ-loop
 returns-2 c = search needs
 

@@ -14,39 +14,32 @@ Inv-loop input₀ from to i₀ k₀ input i k = (length input ≡ length input�
 abbrev μ-loop : tie.MeasureT-loop
 μ-loop input₀ from to i₀ k₀ input i k = to - k
 
--- src/main.rt:96:5
 loop-holds : tie.Need-loop-holds Inv-loop μ-loop
 loop-holds c = (refl, omega arith, omega arith)
 
--- src/main.rt:97:20
 slice-read-input : tie.Need-slice-read-input Inv-loop μ-loop
 slice-read-input c = omega (arith, c .before .before .loop .inv .0, c .before .before .before .pre)
 
--- src/main.rt:97:9
 slice-write-input : tie.Need-slice-write-input Inv-loop μ-loop
 slice-write-input c = omega (arith, c .before .before .loop .inv, c .before .before .before .pre)
 
--- src/main.rt:98:9
 add-i : tie.Need-add-i Inv-loop μ-loop
 add-i c = omega arith
 
--- src/main.rt:99:9
 add-k : tie.Need-add-k Inv-loop μ-loop
 add-k c = omega arith
 
--- src/main.rt:96:5
 loop-less : tie.Need-loop-less Inv-loop μ-loop
 loop-less c = omega arith
 
--- src/main.rt:96:5
 loop-again : tie.Need-loop-again Inv-loop μ-loop
-loop-again c = (length-set (c .before .before .loop .input) (c .before .before .loop .i) (getD (c .before .before .loop .input) (c .before .before .loop .k) 0) ∙ c .before .before .loop .inv .0, omega (arith, c .before .before .loop .inv), omega (arith, c .before .before .loop .inv))
+loop-again c =
+    let l = c .before .before .loop in
+    (length-set (l .input) (l .i) (getD (l .input) (l .k) 0) ∙ l .inv .0, omega (arith, l .inv), omega (arith, l .inv))
 
--- src/main.rt:90:1
 same-length : tie.Need-same-length Inv-loop μ-loop
 same-length c = c .before .loop .inv .0
 
--- src/main.rt:90:1
 returns : tie.Need-returns Inv-loop μ-loop
 returns c = omega (arith, c .before .loop .inv, c .before .before .pre)
 

@@ -1,4 +1,4 @@
-use Rattle.verdicts.proofs.Standing.{turned-down, let-through}
+use Rattle.refusals.proofs.Numbers.{turned-down, let-through}
 use Rattle.sweep.proofs.Opening.{open-no, open-yes}
 use borrow.Author.Needs.{needs}
 use Rattle.sweep.proofs.open.Statement.{statement}

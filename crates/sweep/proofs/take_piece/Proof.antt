@@ -3,7 +3,7 @@ use native.Mathlib.Omega.{arith}
 use mathlib.Core.Path.{ap}
 use Rattle.rules.proofs.Answers.{took}
 use Rattle.sweep.specs.declared.Answer.the-variants.{Accepted}
-use Rattle.sweep.specs.declared.Processor.{Processor}
+use Rattle.processor.specs.declared.Processor.{Processor}
 use Rattle.sweep.proofs.Operations.{take-done}
 use borrow.Author.Needs.{needs}
 use Rattle.sweep.proofs.take_piece.Statement.{statement}
@@ -18,22 +18,26 @@ feed-requires c κs = search needs
 keep-requires : tie.Need-keep-requires
 keep-requires c κs = search needs
 
-cast-moved : tie.Need-cast-moved
-cast-moved c = omega (arith, took _ (c .before .before .before .before .before .before .before .before .before .before .before .before .before .args .p .taken) (c .before .before .before .before .before .before .before .before .before .before .before .before .before .args .flags .now) (c .before .before .before .before .before .before .before .before .before .before .before .before .before .args .values .now) _ (c .before .before .before .before .before .before .before .before .before .before .before .before .before .pre) .piece)
+cast-taken : tie.Need-cast-taken
+cast-taken c = omega (arith, took _ (c .before .before .before .before .before .before .before .before .before .before .before .before .args .p .taken) (c .before .before .before .before .before .before .before .before .before .before .before .before .args .flags .now) (c .before .before .before .before .before .before .before .before .before .before .before .before .args .values .now) _ (c .before .before .before .before .before .before .before .before .before .before .before .before .pre) .piece)
+
+add-taken : tie.Need-add-taken
+add-taken c =
+    let a = c .before .before .before .before .before .before .before .before .before .before .before .before .before .args in
+    let t = took _ (a .p .taken) (a .flags .now) (a .values .now) _ (c .before .before .before .before .before .before .before .before .before .before .before .before .before .pre) .sweep in
+    omega (arith, t)
 
 moved-requires : tie.Need-moved-requires
-moved-requires c κs =
-    let a = c .before .before .before .before .before .before .before .before .before .before .before .before .before .args in
-    took _ (a .p .taken) (a .flags .now) (a .values .now) _ (c .before .before .before .before .before .before .before .before .before .before .before .before .before .pre) .sweep
+moved-requires c κs = search needs
 
 same-length : tie.Need-same-length
 same-length c = search needs
 
 returns : tie.Need-returns
 returns c =
-    let feed = c .before .before .before .before .before .before .feed in
-    let a = c .before .before .before .before .before .before .before .before .before .before .before .before .before .before .args in
-    take-done (a .p) (a .flags .now) (a .values .now) (a .out .now) (c .before .before .before .before .before .before .before .before .before .before .before .before .before .before .pre) (λ i. omega (arith, c .before .before .before .before .before .before .before .before .before .before .before .before .shared-slice-known2 .given i)) _ (feed .result) _ _ (c .before .before .before .before .before .before .before .before .before .progress-of .ensures) (feed .ensures) (c .before .before .keep .ensures) _ (ap (λ (q : Processor). record { answer = Accepted (feed .result .at / 18); processor = q }) (c .moved .ensures))
+    let feed = c .before .before .before .before .before .before .before .feed in
+    let a = c .before .before .before .before .before .before .before .before .before .before .before .before .before .before .before .args in
+    take-done (a .p) (a .flags .now) (a .values .now) (a .out .now) (c .before .before .before .before .before .before .before .before .before .before .before .before .before .before .before .pre) (λ i. omega (arith, c .before .before .before .before .before .before .before .before .before .before .before .before .before .shared-slice-known2 .given i)) _ (feed .result) _ _ (c .before .before .before .before .before .before .before .before .before .before .progress-of .ensures) (feed .ensures) (c .before .before .before .keep .ensures) _ (ap (λ (q : Processor). record { answer = Accepted (feed .result .at / 18); processor = q }) (c .moved .ensures))
 
 pub take-piece-spec : {M : Type 1} → statement M
-take-piece-spec = tie.close (tie.spec progress-of-requires feed-requires keep-requires cast-moved moved-requires same-length returns)
+take-piece-spec = tie.close (tie.spec progress-of-requires feed-requires keep-requires cast-taken add-taken moved-requires same-length returns)

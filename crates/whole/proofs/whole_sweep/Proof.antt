@@ -1,6 +1,6 @@
 use native.Mathlib.Omega.{arith}
 use borrow.Author.Needs.{needs}
-use Rattle.verdicts.proofs.Standing.{turned-down, let-through}
+use Rattle.refusals.proofs.Numbers.{turned-down, let-through}
 use Rattle.whole.proofs.Answering.{whole-refused}
 use Rattle.whole.proofs.whole_sweep.Statement.{statement}
 use Rattle.whole.proofs.whole_sweep.Tie as tie

@@ -1,5 +1,5 @@
-//! The two binary forms of the program crates/calls: a call, and its outcome. They are laid down at
-//! the top of its source. Numbers have their high byte first.
+//! The two binary forms of the program crates/test_calls: a call, and its outcome. They are laid
+//! down at the top of its source. Numbers have their high byte first.
 
 use model::generate::calls::{Answer, Call};
 use model::refusals::Refusal;

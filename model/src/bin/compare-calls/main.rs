@@ -1,4 +1,4 @@
-//! Compares the operations with the model, through the program crates/calls.
+//! Compares the operations with the model, through the program crates/test_calls.
 
 mod form;
 mod lists;
@@ -27,7 +27,7 @@ const FAILED_LISTS: u64 = 5;
 fn main() -> ExitCode {
     let arguments: Vec<String> = std::env::args().skip(1).collect();
     let model = Path::new(env!("CARGO_MANIFEST_DIR"));
-    let program = model.with_file_name("target").join("bin/calls");
+    let program = model.with_file_name("target").join("bin/test_calls");
     let asked = match options::parse(&arguments, program) {
         Ok(asked) => asked,
         Err(wrong) => {

@@ -5,7 +5,7 @@ use std::time::Duration;
 
 pub const HELP: &str = "\
 Compares the operations open, take and close with the model, on lists of calls that the program
-crates/calls carries out: answers, totals, lent buffers with their tails, and processors.
+crates/test_calls carries out: answers, totals, lent buffers with their tails, and processors.
 
   compare-calls --seconds N --seed S [--program PATH]
   compare-calls --calls N --seed S [--program PATH]
@@ -15,7 +15,7 @@ crates/calls carries out: answers, totals, lent buffers with their tails, and pr
   compare-calls --store DIR
       Write the files stdin and stdout of the program's own run into DIR.
 
-PATH is target/bin/calls in the repository if it is not given; 'rt check calls' builds it.
+PATH is target/bin/test_calls in the repository if it is not given; 'rt check test_calls' builds it.
 The last line is 'N passed, M failed': lists, and things that a run of 100000 calls must meet.
 Exit status: 0 nothing failed, 1 something did, 2 wrong usage.
 ";

@@ -1,5 +1,6 @@
-//! The program crates/calls, running: calls go in through one pipe, outcomes come out of another.
-//! A thread feeds the one and a thread empties the other, so that neither side waits for the other.
+//! The program crates/test_calls, running: calls go in through one pipe, outcomes come out of
+//! another. A thread feeds the one and a thread empties the other, so that neither side waits for
+//! the other.
 
 use crate::form::{end, Outcome, TOLD};
 use std::io::{Read, Write};
@@ -49,7 +50,7 @@ impl Program {
         let name = path.display();
         if !path.is_file() {
             return Err(format!(
-                "there is no {name}; 'rt check calls' builds target/bin/calls"
+                "there is no {name}; 'rt check test_calls' builds target/bin/test_calls"
             ));
         }
         let mut child = Command::new(path)

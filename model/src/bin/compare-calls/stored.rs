@@ -1,5 +1,5 @@
-//! The stored run of the program crates/calls: a few calls, with outcomes from the model alone.
-//! The model has no fields of a processor in the middle of a sweep, so there none is shown.
+//! The stored run of the program crates/test_calls: a few calls, with outcomes from the model
+//! alone. The model has no fields of a processor in the middle of a sweep, so there none is shown.
 
 use crate::form::{end, fresh_processor, told, Outcome, Placed};
 use model::generate::calls::Call;
@@ -110,7 +110,7 @@ mod tests {
 
     #[test]
     fn the_files_of_the_crate_are_those_of_the_model() {
-        let folder = Path::new(env!("CARGO_MANIFEST_DIR")).join("../crates/calls");
+        let folder = Path::new(env!("CARGO_MANIFEST_DIR")).join("../crates/test_calls");
         let file = |name| std::fs::read(folder.join(name)).expect("a stored file");
         let stored = stored();
         assert!(file("stdin") == stored.stdin, "stdin differs");

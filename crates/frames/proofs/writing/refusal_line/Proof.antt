@@ -10,46 +10,41 @@ use Rattle.frames.proofs.writing.refusal_line.Statement.{statement}
 use Rattle.frames.proofs.writing.refusal_line.Tie as tie
 use Rattle.frames.proofs.writing.refusal_line.Reads as reads
 use Rattle.frames.proofs.writing.refusal_line.Lts as lts
-use Rattle.frames.proofs.writing.fits.Reads as fits-reads
-use Rattle.frames.proofs.writing.put_line.Reads as put-line-reads
+use Rattle.frames.proofs.writing.has_room.Reads as has-room-reads
 
--- src/writing.rt:132:9
-fits-requires : tie.Need-fits-requires
-fits-requires c κs = search needs
+has-room-requires : tie.Need-has-room-requires
+has-room-requires c κs = search needs
 
--- src/writing.rt:133:9
 same-length : tie.Need-same-length
 same-length c = search needs
 
--- src/writing.rt:133:9
 returns : tie.Need-returns
-returns c = write-none (refusalLine (c .before .before .before .before .args .number)) (c .before .before .before .before .args .at) (c .before .before .before .before .args .out .now) 5 refl (sym (c .before .fits2 .ensures) ∙ not-true _ (c .if1 .taken))
+returns c =
+    let a = c .before .before .before .before .args in
+    write-none (refusalLine (a .number)) (a .at) (a .out .now) 5 refl (sym (c .before .has-room .ensures) ∙ not-true _ (c .if1 .taken))
 
--- src/writing.rt:136:18
 slice-aggregate-put-line : tie.Need-slice-aggregate-put-line
 slice-aggregate-put-line c = search needs
 
--- src/writing.rt:136:5
 put-line-requires : tie.Need-put-line-requires
-put-line-requires c κs = omega (arith, leb-true (c .before .before .before .before .before .before .args .at + 5) (length (c .before .before .before .before .before .before .args .out .now)) (sym (c .before .before .before .fits2 .ensures) ∙ not-false _ (c .before .before .if1 .left)))
+put-line-requires c κs = omega (arith, leb-true (c .before .before .before .before .before .before .args .at + 5) (length (c .before .before .before .before .before .before .args .out .now)) (sym (c .before .before .before .has-room .ensures) ∙ not-false _ (c .before .before .if1 .left)))
 
--- src/writing.rt:137:5
 add-result : tie.Need-add-result
-add-result c = omega (arith, leb-true (c .before .before .before .before .before .before .before .before .before .args .at + 5) (length (c .before .before .before .before .before .before .before .before .before .args .out .now)) (sym (c .before .before .before .before .before .before .fits2 .ensures) ∙ not-false _ (c .before .before .before .before .before .if1 .left)))
+add-result c = omega (arith, leb-true (c .before .before .before .before .before .before .before .before .before .args .at + 5) (length (c .before .before .before .before .before .before .before .before .before .args .out .now)) (sym (c .before .before .before .before .before .before .has-room .ensures) ∙ not-false _ (c .before .before .before .before .before .if1 .left)))
 
--- src/writing.rt:129:1
 same-length-2 : tie.Need-same-length-2
 same-length-2 c = search needs
 
--- src/writing.rt:129:1
 returns-2 : tie.Need-returns-2
-returns-2 c = write-all (refusalLine (c .before .before .before .before .before .before .before .before .before .args .number)) (c .before .before .before .before .before .before .before .before .before .args .at) (c .before .before .before .before .before .before .before .before .before .args .out .now) 5 refl (sym (c .before .before .before .before .before .before .fits2 .ensures) ∙ not-false _ (c .before .before .before .before .before .if1 .left)) _ (c .before .before .put-line .ensures)
+returns-2 c =
+    let a = c .before .before .before .before .before .before .before .before .before .args in
+    write-all (refusalLine (a .number)) (a .at) (a .out .now) 5 refl (sym (c .before .before .before .before .before .before .has-room .ensures) ∙ not-false _ (c .before .before .before .before .before .if1 .left)) _ (c .before .before .put-line .ensures)
 
 pub refusal-line-spec : {M : Type 1} → statement M
 refusal-line-spec =
     tie.close
     (tie.spec
-    fits-requires
+    has-room-requires
     same-length
     returns
     slice-aggregate-put-line

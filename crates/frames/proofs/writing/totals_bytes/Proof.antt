@@ -5,55 +5,42 @@ use Rattle.frames.proofs.writing.totals_bytes.Tie as tie
 use Rattle.frames.proofs.writing.totals_bytes.Reads as reads
 use Rattle.frames.proofs.writing.totals_bytes.Lts as lts
 
--- src/writing.rt:101:9
 cast-t4 : tie.Need-cast-t4
 cast-t4 c = search needs
 
--- src/writing.rt:102:9
 cast-t6 : tie.Need-cast-t6
 cast-t6 c = search needs
 
--- src/writing.rt:103:9
 cast-t9 : tie.Need-cast-t9
 cast-t9 c = search needs
 
--- src/writing.rt:104:9
 cast-t11 : tie.Need-cast-t11
 cast-t11 c = search needs
 
--- src/writing.rt:105:9
 cast-t14 : tie.Need-cast-t14
 cast-t14 c = search needs
 
--- src/writing.rt:106:9
 cast-t16 : tie.Need-cast-t16
 cast-t16 c = search needs
 
--- src/writing.rt:107:9
 cast-t19 : tie.Need-cast-t19
 cast-t19 c = search needs
 
--- src/writing.rt:108:9
 cast-t21 : tie.Need-cast-t21
 cast-t21 c = search needs
 
--- src/writing.rt:109:9
 cast-t24 : tie.Need-cast-t24
 cast-t24 c = search needs
 
--- src/writing.rt:110:9
 cast-t26 : tie.Need-cast-t26
 cast-t26 c = search needs
 
--- src/writing.rt:111:9
 cast-t29 : tie.Need-cast-t29
 cast-t29 c = search needs
 
--- src/writing.rt:112:9
 cast-t31 : tie.Need-cast-t31
 cast-t31 c = search needs
 
--- src/writing.rt:97:1
 returns : tie.Need-returns
 returns c = totals-are (c .before .before .before .before .before .before .before .before .before .before .before .before .args .t)
 

@@ -5,78 +5,60 @@ use Rattle.front.proofs.words.advance.Statement.{statement}
 use Rattle.front.proofs.words.advance.Tie as tie
 use Rattle.front.proofs.words.advance.Reads as reads
 use Rattle.front.proofs.words.advance.Lts as lts
-use Rattle.edges.proofs.detection.detect_or_skip.Reads as detect-or-skip-reads
+use Rattle.edges.proofs.detect_or_skip.Reads as detect-or-skip-reads
 use Rattle.plane.proofs.slide.Reads as slide-reads
 
--- src/front.rt:45:9
 slide-requires : tie.Need-slide-requires
 slide-requires c κs = search needs
 
--- src/front.rt:46:9
 slide-requires-2 : tie.Need-slide-requires-2
 slide-requires-2 c κs = search needs
 
--- src/front.rt:47:9
 slide-requires-3 : tie.Need-slide-requires-3
 slide-requires-3 c κs = search needs
 
--- src/front.rt:48:9
 slide-requires-4 : tie.Need-slide-requires-4
 slide-requires-4 c κs = search needs
 
--- src/front.rt:49:9
 slide-requires-5 : tie.Need-slide-requires-5
 slide-requires-5 c κs = search needs
 
--- src/front.rt:50:9
 slide-requires-6 : tie.Need-slide-requires-6
 slide-requires-6 c κs = search needs
 
--- src/front.rt:51:9
 slide-requires-7 : tie.Need-slide-requires-7
 slide-requires-7 c κs = search needs
 
--- src/front.rt:52:9
 slide-requires-8 : tie.Need-slide-requires-8
 slide-requires-8 c κs = search needs
 
--- src/front.rt:53:9
 slide-requires-9 : tie.Need-slide-requires-9
 slide-requires-9 c κs = search needs
 
--- src/front.rt:54:9
 slide-requires-10 : tie.Need-slide-requires-10
 slide-requires-10 c κs = search needs
 
--- src/front.rt:55:9
 slide-requires-11 : tie.Need-slide-requires-11
 slide-requires-11 c κs = omega arith
 
--- src/front.rt:56:9
 slide-requires-12 : tie.Need-slide-requires-12
 slide-requires-12 c κs = omega arith
 
--- src/front.rt:57:9
 slide-requires-13 : tie.Need-slide-requires-13
 slide-requires-13 c κs = omega arith
 
--- src/front.rt:58:9
 slide-requires-14 : tie.Need-slide-requires-14
 slide-requires-14 c κs = omega arith
 
--- src/front.rt:59:9
 slide-requires-15 : tie.Need-slide-requires-15
 slide-requires-15 c κs = omega arith
 
--- src/front.rt:60:9
 slide-requires-16 : tie.Need-slide-requires-16
 slide-requires-16 c κs = omega arith
 
--- src/front.rt:69:9
 detect-or-skip-requires : tie.Need-detect-or-skip-requires
 detect-or-skip-requires c κs = tt
 
--- src/front.rt:41:1
 returns : tie.Need-returns
 returns c = advance-law _ _ _ _ (c .before .before .before .before .before .before .before .before .before .before .before .before .before .before .before .before .before .pre .1) (record { a = c .before .before .before .before .before .before .before .before .before .before .before .before .before .before .before .before .slide .ensures; a1 = c .before .before .before .before .before .before .before .before .before .before .before .before .before .before .before .slide2 .ensures; p = c .before .before .before .before .before .before .before .before .before .before .before .before .before .before .slide3 .ensures; p1 = c .before .before .before .before .before .before .before .before .before .before .before .before .before .slide4 .ensures; n = c .before .before .before .before .before .before .before .before .before .before .before .before .slide5 .ensures; n1 = c .before .before .before .before .before .before .before .before .before .before .before .slide6 .ensures; l1 = c .before .before .before .before .before .before .before .before .before .before .slide7 .ensures; k1 = c .before .before .before .before .before .before .before .before .before .slide8 .ensures; h1 = c .before .before .before .before .before .before .before .before .slide9 .ensures; e1 = c .before .before .before .before .before .before .before .slide10 .ensures; e2 = c .before .before .before .before .before .before .slide11 .ensures; e3 = c .before .before .before .before .before .slide12 .ensures; m = c .before .before .before .before .slide13 .ensures; m1 = c .before .before .before .slide14 .ensures; m2 = c .before .before .slide15 .ensures; m3 = c .before .slide16 .ensures; found = c .detect-or-skip .ensures })
 

@@ -4,7 +4,6 @@ use Rattle.front.proofs.words.no_front.Tie as tie
 use Rattle.front.proofs.words.no_front.Reads as reads
 use Rattle.front.proofs.words.no_front.Lts as lts
 
--- src/front.rt:95:1
 returns : tie.Need-returns
 returns c = no-front
 

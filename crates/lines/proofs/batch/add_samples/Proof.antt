@@ -1,5 +1,5 @@
 use Rattle.lines.proofs.Batching.{add-post}
-use Rattle.carry.proofs.Carrying.{flags-lent, values-lent}
+use Rattle.answers.proofs.Answering.{flags-lent, values-lent}
 use native.Mathlib.Omega.{arith}
 use mathlib.Core.Path.{refl}
 use borrow.Author.Needs.{needs}
@@ -11,41 +11,35 @@ use Rattle.reading.proofs.read.Reads as read-reads
 use Rattle.lines.proofs.batch.append.Reads as append-reads
 use Rattle.lines.proofs.batch.count_in.Reads as count-in-reads
 
--- src/batch.rt:66:9
 read-requires : tie.Need-read-requires
 read-requires c κs = search needs
 
--- src/batch.rt:67:9
 count-in-requires : tie.Need-count-in-requires
 count-in-requires c κs = search needs
 
--- src/batch.rt:68:12
 slice-aggregate-append : tie.Need-slice-aggregate-append
 slice-aggregate-append c = flags-lent (c .before .before .before .before .before .before .before .before .args .line .now) _ _ _ _ _ (c .before .before .read .ensures) refl
 
--- src/batch.rt:68:5
 append-requires : tie.Need-append-requires
 append-requires c κs = (omega (arith, flags-lent (c .before .before .before .before .before .before .before .before .before .args .line .now) _ _ _ _ _ (c .before .before .before .read .ensures) refl), c .before .before .before .before .before .before .before .before .before .pre .0)
 
--- src/batch.rt:69:12
 slice-aggregate-append-2 : tie.Need-slice-aggregate-append-2
 slice-aggregate-append-2 c = values-lent (c .before .before .before .before .before .before .before .before .before .before .before .before .before .args .line .now) _ _ _ _ _ (c .before .before .before .before .before .before .before .read .ensures) refl
 
--- src/batch.rt:69:5
 append-requires-2 : tie.Need-append-requires-2
 append-requires-2 c κs = (omega (arith, values-lent (c .before .before .before .before .before .before .before .before .before .before .before .before .before .before .args .line .now) _ _ _ _ _ (c .before .before .before .before .before .before .before .before .read .ensures) refl), c .before .before .before .before .before .before .before .before .before .before .before .before .before .before .pre .1)
 
--- src/batch.rt:60:1
 same-length : tie.Need-same-length
 same-length c = search needs
 
--- src/batch.rt:60:1
 same-length-2 : tie.Need-same-length-2
 same-length-2 c = search needs
 
--- src/batch.rt:60:1
 returns : tie.Need-returns
-returns c = add-post (c .before .before .before .before .before .before .before .before .before .before .before .before .before .before .before .before .before .args .n) _ _ _ _ (c .before .before .before .before .before .before .before .before .before .before .before .before .before .before .before .before .before .args .flags .now) (c .before .before .before .before .before .before .before .before .before .before .before .before .before .before .before .before .before .args .values .now) (c .before .before .before .before .before .before .before .before .before .before .before .before .before .before .before .before .before .args .line .now) _ (c .before .before .before .before .before .before .before .before .before .before .before .read .ensures) refl refl (c .before .before .before .before .before .before .before .before .before .before .before .before .before .before .before .before .before .pre .0) (c .before .before .before .before .before .before .before .before .before .before .before .before .before .before .before .before .before .pre .1) _ (c .before .before .before .before .before .before .before .before .before .before .count-in .ensures) _ _ (c .before .before .before .before .before .before .before .append .ensures) (c .before .before .append2 .ensures)
+returns c =
+    let a = c .before .before .before .before .before .before .before .before .before .before .before .before .before .before .before .before .before .args in
+    let pre = c .before .before .before .before .before .before .before .before .before .before .before .before .before .before .before .before .before .pre in
+    add-post (a .n) _ _ _ _ (a .flags .now) (a .values .now) (a .line .now) _ (c .before .before .before .before .before .before .before .before .before .before .before .read .ensures) refl refl (pre .0) (pre .1) _ (c .before .before .before .before .before .before .before .before .before .before .count-in .ensures) _ _ (c .before .before .before .before .before .before .before .append .ensures) (c .before .before .append2 .ensures)
 
 pub add-samples-spec : {M : Type 1} → statement M
 add-samples-spec =

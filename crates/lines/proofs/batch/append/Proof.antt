@@ -1,5 +1,5 @@
 use Rattle.lines.proofs.Batching.{firstOnes, append-start, append-next, append-end}
-use Rattle.frames.proofs.Printing.{Putting}
+use Rattle.hexadecimal.proofs.Parts.{Putting}
 use native.Mathlib.Omega.{arith}
 use Prim.Native.Nat.{_-_}
 use Rattle.lines.proofs.batch.append.Statement.{statement}
@@ -13,41 +13,40 @@ Inv-loop bytes all₀ n i₀ all i = Putting (firstOnes bytes) 64 n all₀ all i
 abbrev μ-loop : tie.MeasureT-loop
 μ-loop bytes all₀ n i₀ all i = 64 - i
 
--- src/batch.rt:39:5
 loop-holds : tie.Need-loop-holds Inv-loop μ-loop
 loop-holds c = append-start (c .args .bytes .now) 64 (c .pre .0) (c .args .n) (c .args .all .now) (c .pre .1)
 
--- src/batch.rt:40:22
 shared-slice-read-all : tie.Need-shared-slice-read-all Inv-loop μ-loop
 shared-slice-read-all c = omega (arith, c .before .before .before .pre .0)
 
--- src/batch.rt:40:13
 add-all : tie.Need-add-all Inv-loop μ-loop
 add-all c = omega (arith, c .before .before .before .pre .1)
 
--- src/batch.rt:40:9
 slice-write-all : tie.Need-slice-write-all Inv-loop μ-loop
 slice-write-all c = omega (arith, c .before .before .before .pre .1, c .before .before .loop .inv .size)
 
--- src/batch.rt:41:9
 add-i : tie.Need-add-i Inv-loop μ-loop
 add-i c = omega arith
 
--- src/batch.rt:39:5
 loop-less : tie.Need-loop-less Inv-loop μ-loop
 loop-less c = omega arith
 
--- src/batch.rt:39:5
 loop-again : tie.Need-loop-again Inv-loop μ-loop
-loop-again c = append-next (c .before .before .before .args .bytes .now) 64 (c .before .before .before .pre .0) (c .before .before .before .args .n) (c .before .before .before .args .all .now) (c .before .before .before .pre .1) (c .before .before .loop .all) (c .before .before .loop .i) (omega arith) (c .before .before .loop .inv)
+loop-again c =
+    let l = c .before .before .loop in
+    let a = c .before .before .before .args in
+    let pre = c .before .before .before .pre in
+    append-next (a .bytes .now) 64 (pre .0) (a .n) (a .all .now) (pre .1) (l .all) (l .i) (omega arith) (l .inv)
 
--- src/batch.rt:34:1
 same-length : tie.Need-same-length Inv-loop μ-loop
 same-length c = c .before .loop .inv .size
 
--- src/batch.rt:34:1
 returns : tie.Need-returns Inv-loop μ-loop
-returns c = append-end (c .before .before .args .bytes .now) 64 (c .before .before .pre .0) (c .before .before .args .n) (c .before .before .args .all .now) (c .before .before .pre .1) (c .before .loop .all) (c .before .loop .i) (omega arith) (c .before .loop .inv)
+returns c =
+    let l = c .before .loop in
+    let a = c .before .before .args in
+    let pre = c .before .before .pre in
+    append-end (a .bytes .now) 64 (pre .0) (a .n) (a .all .now) (pre .1) (l .all) (l .i) (omega arith) (l .inv)
 
 pub append-spec : {M : Type 1} → statement M
 append-spec =

@@ -1,5 +1,5 @@
 use borrow.Author.Needs.{needs}
-use Rattle.carry.proofs.Carrying.{part-length}
+use Rattle.answers.proofs.Answering.{part-length}
 use native.Mathlib.Omega.{arith}
 use Rattle.lines.proofs.Batching.{part-short, batch-nothing, batch-post}
 use borrow.Author.Tests.{not-false, leb-true}
@@ -12,78 +12,69 @@ use Rattle.lines.proofs.batch.batch.Reads as reads
 use Rattle.lines.proofs.batch.batch.Lts as lts
 use Rattle.lines.proofs.batch.gather.Reads as gather-reads
 use Rattle.lines.proofs.batch.may_say_samples.Reads as may-say-samples-reads
-use Rattle.lines.proofs.batch.spacious.Reads as spacious-reads
 use Rattle.lines.proofs.batch.take_all.Reads as take-all-reads
 
--- src/batch.rt:157:9
-spacious-requires : tie.Need-spacious-requires
-spacious-requires c κs = search needs
+has-room-requires : tie.Need-has-room-requires
+has-room-requires c κs = search needs
 
--- src/batch.rt:158:9
 same-length : tie.Need-same-length
 same-length c = search needs
 
--- src/batch.rt:158:9
 returns : tie.Need-returns
-returns c = batch-nothing (c .before .before .before .before .before .args .p) (c .before .before .before .before .before .args .input .now) (c .before .before .before .before .before .args .from) (c .before .before .before .before .before .args .at) (c .before .before .before .before .before .args .out .now)
+returns c =
+    let a = c .before .before .before .before .before .args in
+    batch-nothing (a .p) (a .input .now) (a .from) (a .at) (a .out .now)
 
--- src/batch.rt:164:9
 may-say-samples-requires : tie.Need-may-say-samples-requires
 may-say-samples-requires c κs = search needs
 
--- src/batch.rt:165:9
 same-length-2 : tie.Need-same-length-2
 same-length-2 c = search needs
 
--- src/batch.rt:165:9
 returns-2 : tie.Need-returns-2
-returns-2 c = batch-nothing (c .before .before .before .before .before .before .before .args .p) (c .before .before .before .before .before .before .before .args .input .now) (c .before .before .before .before .before .before .before .args .from) (c .before .before .before .before .before .before .before .args .at) (c .before .before .before .before .before .before .before .args .out .now)
+returns-2 c =
+    let a = c .before .before .before .before .before .before .before .args in
+    batch-nothing (a .p) (a .input .now) (a .from) (a .at) (a .out .now)
 
--- src/batch.rt:173:33
 slice-aggregate-gather : tie.Need-slice-aggregate-gather
 slice-aggregate-gather c = search needs
 
--- src/batch.rt:173:45
 slice-aggregate-gather-2 : tie.Need-slice-aggregate-gather-2
 slice-aggregate-gather-2 c = search needs
 
--- src/batch.rt:173:9
 gather-requires : tie.Need-gather-requires
 gather-requires c κs = search needs
 
--- src/batch.rt:176:17
 array-share-prefix-flags : tie.Need-array-share-prefix-flags
 array-share-prefix-flags c = search needs
 
--- src/batch.rt:176:17
 slice-aggregate-take-all : tie.Need-slice-aggregate-take-all
 slice-aggregate-take-all c = part-length _ _ (omega (arith, c .before .before .before .gather .ensures .most, c .before .before .flags2 .given))
 
--- src/batch.rt:176:30
 array-share-prefix-values : tie.Need-array-share-prefix-values
 array-share-prefix-values c = search needs
 
--- src/batch.rt:176:30
 slice-aggregate-take-all-2 : tie.Need-slice-aggregate-take-all-2
 slice-aggregate-take-all-2 c = part-length _ _ (omega (arith, c .before .before .before .before .gather .ensures .most, c .before .before .values2 .given))
 
--- src/batch.rt:176:5
 take-all-requires : tie.Need-take-all-requires
-take-all-requires c κs = (part-short _ _ 4096 (c .before .before .before .before .before .gather .ensures .most), leb-true (c .before .before .before .before .before .before .before .before .before .before .before .before .before .before .before .args .at + 3120) (length (c .before .before .before .before .before .before .before .before .before .before .before .before .before .before .before .args .out .now)) (sym (c .before .before .before .before .before .before .before .before .before .before .before .spacious .ensures) ∙ not-false _ (c .before .before .before .before .before .before .before .before .before .before .if1 .left)))
+take-all-requires c κs =
+    let a = c .before .before .before .before .before .before .before .before .before .before .before .before .before .before .before .args in
+    (part-short _ _ 4096 (c .before .before .before .before .before .gather .ensures .most), leb-true (a .at + 3120) (length (a .out .now)) (sym (c .before .before .before .before .before .before .before .before .before .before .before .has-room .ensures) ∙ not-false _ (c .before .before .before .before .before .before .before .before .before .before .if1 .left)))
 
--- src/batch.rt:154:1
 same-length-3 : tie.Need-same-length-3
 same-length-3 c = search needs
 
--- src/batch.rt:154:1
 returns-3 : tie.Need-returns-3
-returns-3 c = batch-post (c .before .before .before .before .before .before .before .before .before .before .before .before .before .before .before .before .before .before .args .p) (c .before .before .before .before .before .before .before .before .before .before .before .before .before .before .before .before .before .before .args .input .now) (c .before .before .before .before .before .before .before .before .before .before .before .before .before .before .before .before .before .before .args .from) _ (c .before .before .before .before .before .before .before .before .before .before .before .before .before .before .before .before .before .before .args .at) (c .before .before .before .before .before .before .before .before .before .before .before .before .before .before .before .before .before .before .args .out .now) (leb-true (c .before .before .before .before .before .before .before .before .before .before .before .before .before .before .before .before .before .before .args .at + 3120) (length (c .before .before .before .before .before .before .before .before .before .before .before .before .before .before .before .before .before .before .args .out .now)) (sym (c .before .before .before .before .before .before .before .before .before .before .before .before .before .before .spacious .ensures) ∙ not-false _ (c .before .before .before .before .before .before .before .before .before .before .before .before .before .if1 .left))) _ (c .before .before .before .before .before .before .before .before .gather .ensures .all) _ _ (c .before .before .take-all .ensures)
+returns-3 c =
+    let a = c .before .before .before .before .before .before .before .before .before .before .before .before .before .before .before .before .before .before .args in
+    batch-post (a .p) (a .input .now) (a .from) _ (a .at) (a .out .now) (leb-true (a .at + 3120) (length (a .out .now)) (sym (c .before .before .before .before .before .before .before .before .before .before .before .before .before .before .has-room .ensures) ∙ not-false _ (c .before .before .before .before .before .before .before .before .before .before .before .before .before .if1 .left))) _ (c .before .before .before .before .before .before .before .before .gather .ensures .all) _ _ (c .before .before .take-all .ensures)
 
 pub batch-spec : {M : Type 1} → statement M
 batch-spec =
     tie.close
     (tie.spec
-    spacious-requires
+    has-room-requires
     same-length
     returns
     may-say-samples-requires

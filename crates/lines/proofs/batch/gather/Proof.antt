@@ -17,85 +17,85 @@ Inv-loop input from flags₀ values₀ i₀ n₀ flags values i n = SoFar input 
 abbrev μ-loop : tie.MeasureT-loop
 μ-loop input from flags₀ values₀ i₀ n₀ flags values i n = 4096 - n
 
--- src/batch.rt:79:5
 loop-holds : tie.Need-loop-holds Inv-loop μ-loop
-loop-holds c = so-far-start (c .before .before .before .args .input .now) (c .before .before .before .args .from) (c .before .before .before .args .flags .now) (c .before .before .before .args .values .now)
+loop-holds c =
+    let a = c .before .before .before .args in
+    so-far-start (a .input .now) (a .from) (a .flags .now) (a .values .now)
 
--- src/batch.rt:80:13
 line-end-requires : tie.Need-line-end-requires Inv-loop μ-loop
 line-end-requires c κs = search needs
 
--- src/batch.rt:81:21
 enum-known-e : tie.Need-enum-known-e Inv-loop μ-loop
 enum-known-e c = search needs
 
--- src/batch.rt:82:13
 enum-told : tie.Need-enum-told Inv-loop μ-loop
 enum-told c = search needs
 
--- src/batch.rt:82:13
 same-length : tie.Need-same-length Inv-loop μ-loop
 same-length c = c .before .before .before .before .loop .inv .flag-room
 
--- src/batch.rt:82:13
 same-length-2 : tie.Need-same-length-2 Inv-loop μ-loop
 same-length-2 c = c .before .before .before .before .loop .inv .value-room
 
--- src/batch.rt:82:13
 returns : tie.Need-returns Inv-loop μ-loop
-returns c = so-far-end (c .before .before .before .before .before .before .before .before .args .input .now) (c .before .before .before .before .before .before .before .before .args .from) (c .before .before .before .before .before .before .before .before .args .flags .now) (c .before .before .before .before .before .before .before .before .args .values .now) (c .before .before .before .before .loop .flags) (c .before .before .before .before .loop .values) (c .before .before .before .before .loop .i) (c .before .before .before .before .loop .n) (c .before .before .before .before .loop .inv) _ refl refl
+returns c =
+    let l = c .before .before .before .before .loop in
+    let a = c .before .before .before .before .before .before .before .before .args in
+    so-far-end (a .input .now) (a .from) (a .flags .now) (a .values .now) (l .flags) (l .values) (l .i) (l .n) (l .inv) _ refl refl
 
--- src/batch.rt:84:29
 sub-add-samples : tie.Need-sub-add-samples Inv-loop μ-loop
 sub-add-samples c = omega (arith, (end-at (c .before .before .before .before .before .before .before .before .before .args .input .now) (c .before .before .before .before .before .loop .i) _ _ (c .before .e .given .1) (c .before .before .before .line-end .ensures)) .some)
 
--- src/batch.rt:84:29
 part-add-samples-start : tie.Need-part-add-samples-start Inv-loop μ-loop
 part-add-samples-start c = omega (arith, (end-at (c .before .before .before .before .before .before .before .before .before .args .input .now) (c .before .before .before .before .before .loop .i) _ _ (c .before .e .given .1) (c .before .before .before .line-end .ensures)) .some)
 
--- src/batch.rt:84:29
 part-add-samples-end : tie.Need-part-add-samples-end Inv-loop μ-loop
 part-add-samples-end c = omega (arith, (end-at (c .before .before .before .before .before .before .before .before .before .args .input .now) (c .before .before .before .before .before .loop .i) _ _ (c .before .e .given .1) (c .before .before .before .line-end .ensures)) .inside)
 
--- src/batch.rt:84:13
 add-samples-requires : tie.Need-add-samples-requires Inv-loop μ-loop
 add-samples-requires c κs = (omega (arith, c .before .before .before .before .before .before .before .before .before .before .before .before .pre .0, c .before .before .before .before .before .before .before .before .loop .inv .flag-room), omega (arith, c .before .before .before .before .before .before .before .before .before .before .before .before .pre .1, c .before .before .before .before .before .before .before .before .loop .inv .value-room))
 
--- src/batch.rt:86:13
 same-length-3 : tie.Need-same-length-3 Inv-loop μ-loop
-same-length-3 c = so-far-same (c .before .before .before .before .before .before .before .before .before .before .before .before .before .before .before .before .before .before .args .input .now) (c .before .before .before .before .before .before .before .before .before .before .before .before .before .before .before .before .before .before .args .from) (c .before .before .before .before .before .before .before .before .before .before .before .before .before .before .before .before .before .before .args .flags .now) (c .before .before .before .before .before .before .before .before .before .before .before .before .before .before .before .before .before .before .args .values .now) (c .before .before .before .before .before .before .before .before .before .before .before .before .before .before .loop .flags) (c .before .before .before .before .before .before .before .before .before .before .before .before .before .before .loop .values) (c .before .before .before .before .before .before .before .before .before .before .before .before .before .before .loop .i) (c .before .before .before .before .before .before .before .before .before .before .before .before .before .before .loop .n) (c .before .before .before .before .before .before .before .before .before .before .before .before .before .before .loop .inv) _ _ _ _ (c .before .before .before .before .before .add-samples .ensures) (c .if1 .taken) .flag-room
+same-length-3 c =
+    let l = c .before .before .before .before .before .before .before .before .before .before .before .before .before .before .loop in
+    let a = c .before .before .before .before .before .before .before .before .before .before .before .before .before .before .before .before .before .before .args in
+    so-far-same (a .input .now) (a .from) (a .flags .now) (a .values .now) (l .flags) (l .values) (l .i) (l .n) (l .inv) _ _ _ _ (c .before .before .before .before .before .add-samples .ensures) (c .if1 .taken) .flag-room
 
--- src/batch.rt:86:13
 same-length-4 : tie.Need-same-length-4 Inv-loop μ-loop
-same-length-4 c = so-far-same (c .before .before .before .before .before .before .before .before .before .before .before .before .before .before .before .before .before .before .args .input .now) (c .before .before .before .before .before .before .before .before .before .before .before .before .before .before .before .before .before .before .args .from) (c .before .before .before .before .before .before .before .before .before .before .before .before .before .before .before .before .before .before .args .flags .now) (c .before .before .before .before .before .before .before .before .before .before .before .before .before .before .before .before .before .before .args .values .now) (c .before .before .before .before .before .before .before .before .before .before .before .before .before .before .loop .flags) (c .before .before .before .before .before .before .before .before .before .before .before .before .before .before .loop .values) (c .before .before .before .before .before .before .before .before .before .before .before .before .before .before .loop .i) (c .before .before .before .before .before .before .before .before .before .before .before .before .before .before .loop .n) (c .before .before .before .before .before .before .before .before .before .before .before .before .before .before .loop .inv) _ _ _ _ (c .before .before .before .before .before .add-samples .ensures) (c .if1 .taken) .value-room
+same-length-4 c =
+    let l = c .before .before .before .before .before .before .before .before .before .before .before .before .before .before .loop in
+    let a = c .before .before .before .before .before .before .before .before .before .before .before .before .before .before .before .before .before .before .args in
+    so-far-same (a .input .now) (a .from) (a .flags .now) (a .values .now) (l .flags) (l .values) (l .i) (l .n) (l .inv) _ _ _ _ (c .before .before .before .before .before .add-samples .ensures) (c .if1 .taken) .value-room
 
--- src/batch.rt:86:13
 returns-2 : tie.Need-returns-2 Inv-loop μ-loop
-returns-2 c = so-far-end (c .before .before .before .before .before .before .before .before .before .before .before .before .before .before .before .before .before .before .args .input .now) (c .before .before .before .before .before .before .before .before .before .before .before .before .before .before .before .before .before .before .args .from) (c .before .before .before .before .before .before .before .before .before .before .before .before .before .before .before .before .before .before .args .flags .now) (c .before .before .before .before .before .before .before .before .before .before .before .before .before .before .before .before .before .before .args .values .now) _ _ (c .before .before .before .before .before .before .before .before .before .before .before .before .before .before .loop .i) (c .before .before .before .before .before .before .before .before .before .before .before .before .before .before .loop .n) (so-far-same (c .before .before .before .before .before .before .before .before .before .before .before .before .before .before .before .before .before .before .args .input .now) (c .before .before .before .before .before .before .before .before .before .before .before .before .before .before .before .before .before .before .args .from) (c .before .before .before .before .before .before .before .before .before .before .before .before .before .before .before .before .before .before .args .flags .now) (c .before .before .before .before .before .before .before .before .before .before .before .before .before .before .before .before .before .before .args .values .now) (c .before .before .before .before .before .before .before .before .before .before .before .before .before .before .loop .flags) (c .before .before .before .before .before .before .before .before .before .before .before .before .before .before .loop .values) (c .before .before .before .before .before .before .before .before .before .before .before .before .before .before .loop .i) (c .before .before .before .before .before .before .before .before .before .before .before .before .before .before .loop .n) (c .before .before .before .before .before .before .before .before .before .before .before .before .before .before .loop .inv) _ _ _ _ (c .before .before .before .before .before .add-samples .ensures) (c .if1 .taken)) _ refl refl
+returns-2 c =
+    let l = c .before .before .before .before .before .before .before .before .before .before .before .before .before .before .loop in
+    let a = c .before .before .before .before .before .before .before .before .before .before .before .before .before .before .before .before .before .before .args in
+    so-far-end (a .input .now) (a .from) (a .flags .now) (a .values .now) _ _ (l .i) (l .n) (so-far-same (a .input .now) (a .from) (a .flags .now) (a .values .now) (l .flags) (l .values) (l .i) (l .n) (l .inv) _ _ _ _ (c .before .before .before .before .before .add-samples .ensures) (c .if1 .taken)) _ refl refl
 
--- src/batch.rt:88:9
 add-n : tie.Need-add-n Inv-loop μ-loop
 add-n c = omega (arith, so-far-few (c .before .before .before .before .before .before .before .before .before .before .before .before .before .before .before .before .before .before .args .input .now) (c .before .before .before .before .before .before .before .before .before .before .before .before .before .before .before .before .before .before .args .from) (c .before .before .before .before .before .before .before .before .before .before .before .before .before .before .before .before .before .before .args .flags .now) (c .before .before .before .before .before .before .before .before .before .before .before .before .before .before .before .before .before .before .args .values .now) (c .before .before .before .before .before .before .before .before .before .before .before .before .before .before .loop .flags) (c .before .before .before .before .before .before .before .before .before .before .before .before .before .before .loop .values) (c .before .before .before .before .before .before .before .before .before .before .before .before .before .before .loop .i) (c .before .before .before .before .before .before .before .before .before .before .before .before .before .before .loop .n) (c .before .before .before .before .before .before .before .before .before .before .before .before .before .before .loop .inv) _ _ _ _ (c .before .before .before .before .before .add-samples .ensures))
 
--- src/batch.rt:79:5
 loop-less : tie.Need-loop-less Inv-loop μ-loop
 loop-less c = omega (arith, c .if1 .left)
 
--- src/batch.rt:79:5
 loop-again : tie.Need-loop-again Inv-loop μ-loop
-loop-again c = so-far-next (c .before .before .before .before .before .before .before .before .before .before .before .before .before .before .before .before .before .before .args .input .now) (c .before .before .before .before .before .before .before .before .before .before .before .before .before .before .before .before .before .before .args .from) (c .before .before .before .before .before .before .before .before .before .before .before .before .before .before .before .before .before .before .args .flags .now) (c .before .before .before .before .before .before .before .before .before .before .before .before .before .before .before .before .before .before .args .values .now) (c .before .before .before .before .before .before .before .before .before .before .before .before .before .before .loop .flags) (c .before .before .before .before .before .before .before .before .before .before .before .before .before .before .loop .values) (c .before .before .before .before .before .before .before .before .before .before .before .before .before .before .loop .i) (c .before .before .before .before .before .before .before .before .before .before .before .before .before .before .loop .n) (c .before .before .before .before .before .before .before .before .before .before .before .before .before .before .loop .inv) _ _ _ _ (c .before .before .before .before .before .add-samples .ensures) (omega arith) (end-at (c .before .before .before .before .before .before .before .before .before .before .before .before .before .before .before .before .before .before .args .input .now) (c .before .before .before .before .before .before .before .before .before .before .before .before .before .before .loop .i) _ _ (c .before .before .before .before .before .before .before .before .before .before .e .given .1) (c .before .before .before .before .before .before .before .before .before .before .before .before .line-end .ensures)) (c .if1 .left)
+loop-again c =
+    let l = c .before .before .before .before .before .before .before .before .before .before .before .before .before .before .loop in
+    let a = c .before .before .before .before .before .before .before .before .before .before .before .before .before .before .before .before .before .before .args in
+    so-far-next (a .input .now) (a .from) (a .flags .now) (a .values .now) (l .flags) (l .values) (l .i) (l .n) (l .inv) _ _ _ _ (c .before .before .before .before .before .add-samples .ensures) (omega arith) (end-at (a .input .now) (l .i) _ _ (c .before .before .before .before .before .before .before .before .before .before .e .given .1) (c .before .before .before .before .before .before .before .before .before .before .before .before .line-end .ensures)) (c .if1 .left)
 
--- src/batch.rt:73:1
 same-length-5 : tie.Need-same-length-5 Inv-loop μ-loop
 same-length-5 c = c .before .loop .inv .flag-room
 
--- src/batch.rt:73:1
 same-length-6 : tie.Need-same-length-6 Inv-loop μ-loop
 same-length-6 c = c .before .loop .inv .value-room
 
--- src/batch.rt:73:1
 returns-3 : tie.Need-returns-3 Inv-loop μ-loop
-returns-3 c = so-far-end (c .before .before .before .before .before .args .input .now) (c .before .before .before .before .before .args .from) (c .before .before .before .before .before .args .flags .now) (c .before .before .before .before .before .args .values .now) (c .before .loop .flags) (c .before .loop .values) (c .before .loop .i) (c .before .loop .n) (c .before .loop .inv) _ refl refl
+returns-3 c =
+    let l = c .before .loop in
+    let a = c .before .before .before .before .before .args in
+    so-far-end (a .input .now) (a .from) (a .flags .now) (a .values .now) (l .flags) (l .values) (l .i) (l .n) (l .inv) _ refl refl
 
 pub gather-spec : {M : Type 1} → statement M
 gather-spec =

@@ -1,0 +1,70 @@
+// Of the places that cover an edge: whose reference the edge's value agrees with.
+ghost use Prim.Native.Nat.{_<_};
+ghost use mathlib.Core.Path.{_≡_};
+ghost use mathlib.Core.Bool.{_&&_};
+ghost use Rattle.rules.specs.Replies.{agrees};
+ghost use Rattle.rules.specs.Settings.{standard};
+ghost use Rattle.places.specs.Places.{test};
+ghost use Rattle.agreement.specs.Voices.{voicesIn, agreementBy};
+use marking::Words;
+use places::any3;
+use plane::marked;
+use replies::level_of;
+use replies::near;
+use rules::Place;
+use rules::Slot;
+
+// Whether each place covers an edge whose value agrees with its reference.
+pub struct Voices {
+    pub a: bool,
+    pub b: bool,
+    pub c: bool,
+    pub d: bool,
+}
+
+// The value agrees with the reference of the place's reply, if c.
+pub fn speaks(c: bool, p: Place, v: u8) -> bool
+    ensures { λ r. ⌜ r ≡ (c && test (agrees standard v) p) ⌝ }
+{
+    let s = p.slot;
+    match s {
+        Slot::Idle => false,
+        Slot::Open(r) => {
+            let f = r.reference;
+            let e = f.estimate;
+            c & near(level_of(e), v)
+        }
+    }
+}
+
+fn voices_of(p: [Place; 4], on: Words, i: u32, v: u8) -> Voices
+    requires { ⌜ i < 64 ⌝ }
+    ensures { λ r. ⌜ r ≡ voicesIn v on i p ⌝ }
+{
+    Voices {
+        a: speaks(marked(on.a, i), p[0], v),
+        b: speaks(marked(on.b, i), p[1], v),
+        c: speaks(marked(on.c, i), p[2], v),
+        d: speaks(marked(on.d, i), p[3], v),
+    }
+}
+
+// Of the places that cover an edge: whose reference its value agrees with, and beside whom it agrees with another's.
+pub struct Agreement {
+    pub own: Voices,
+    pub other: Voices,
+}
+
+pub fn agreement_of(p: [Place; 4], on: Words, i: u32, v: u8) -> Agreement
+    requires { ⌜ i < 64 ⌝ }
+    ensures { λ r. ⌜ r ≡ agreementBy (voicesIn v on i p) ⌝ }
+{
+    let own = voices_of(p, on, i, v);
+    let other = Voices {
+        a: any3(own.b, own.c, own.d),
+        b: any3(own.a, own.c, own.d),
+        c: any3(own.a, own.b, own.d),
+        d: any3(own.a, own.b, own.c),
+    };
+    Agreement { own, other }
+}

@@ -1,0 +1,3 @@
+pub mod BadBytes
+pub mod Flagless
+pub mod BadBlocks

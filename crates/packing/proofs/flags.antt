@@ -1,3 +1,0 @@
-pub mod BadBytes
-pub mod Bareness
-pub mod BadBlocks

@@ -1,0 +1,16 @@
+-- `moved` puts together what is known.
+use borrow.Author.Needs.{needs}
+use Rattle.processor.proofs.moved.Statement.{statement}
+use Rattle.processor.proofs.moved.Tie as tie
+
+machine-of-requires : tie.Need-machine-of-requires
+machine-of-requires c κs = search needs
+
+returns : tie.Need-returns
+returns c =
+    let a = c .before .before .before .before .args in
+    let p = a .p in
+    λ i. record { mode = p .mode; azimuth = p .azimuth; taken = a .taken; front = a .y .front; recent = a .recent; machine = c .machine-of .ensures i }
+
+pub moved-spec : {M : Type 1} → statement M
+moved-spec = tie.close (tie.spec machine-of-requires returns)

@@ -1,0 +1,30 @@
+-- The four places as an array, and what a processor becomes by a piece.
+use Prim.Native.Nat.{ℕ}
+use mathlib.Core.List.{List, [], _∷_}
+use Rattle.rules.specs.declared.Place.{Place}
+use Rattle.rules.specs.declared.Places.{Places}
+use Rattle.rules.specs.declared.Counts.{Counts}
+use Rattle.rules.specs.declared.Machine.{Machine}
+use Rattle.marking.specs.Marks.{four}
+use Rattle.processor.specs.declared.Processor.{Processor}
+use Rattle.processor.specs.declared.Progress.{Progress}
+
+-- the four places, as a list
+abbrev pub listed : Places → List Place
+listed p = p .p0 ∷ (p .p1 ∷ (p .p2 ∷ (p .p3 ∷ [])))
+
+-- the machine of the places and the counts
+abbrev pub machineIn : List Place → Counts → Machine
+machineIn l c = record { places = four l; counts = c }
+
+-- the machine of how far a piece has come
+abbrev pub machineAt : Progress → Machine
+machineAt y = machineIn (y .places) (y .counts)
+
+-- where a piece, or the zeros past the end, begin: at the start of a buffer
+abbrev pub progressOf : Processor → Progress
+progressOf p = record { front = p .front; places = listed (p .machine .places); counts = p .machine .counts; at = 0 }
+
+-- the processor that p has become after n ticks
+abbrev pub processorAt : Processor → Progress → List ℕ → ℕ → Processor
+processorAt p y recent n = record { mode = p .mode; azimuth = p .azimuth; taken = n; front = y .front; recent = recent; machine = machineAt y }

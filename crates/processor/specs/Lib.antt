@@ -1,0 +1,3 @@
+-- The processor between calls.
+pub mod State
+pub mod Arrays

@@ -1,0 +1,67 @@
+-- The processor as a function of mode, azimuth and joined trace.
+use Prim.Native.Nat.{ℕ, _+_, _-_, _≤_}
+use mathlib.Core.Bool.{Bool, true, false}
+use mathlib.Core.List.{[]}
+use mathlib.Core.Path.{_≡_}
+use lib.ListN.{length}
+use Rattle.rules.specs.Settings.{standard}
+use Rattle.rules.specs.Lists.{All}
+use Rattle.rules.specs.Samples.{Trace, sweepLimit}
+use Rattle.rules.specs.Edges.{edgeAt}
+use Rattle.rules.specs.Machine.{after}
+use Rattle.places.specs.Places.{machineOf}
+use Rattle.processor.specs.declared.Processor.{Processor}
+use Rattle.front.specs.Words.{frontOf, recentOf}
+
+-- ---- the processor
+
+-- no sweep, or a sweep with its mode, its azimuth and the trace so far
+pub data Sweep : Type 0 where
+  none : Sweep
+  running : ℕ → ℕ → Trace → Sweep
+
+unfoldable pub runningProcessor : ℕ → ℕ → Trace → Processor
+unfolding frontOf recentOf
+runningProcessor mode azimuth T =
+    record {
+      mode = mode;
+      azimuth = azimuth;
+      taken = length (T .flags);
+      front = frontOf (T .flags);
+      recent = recentOf (T .values);
+      machine = machineOf (after _+_ standard (edgeAt standard T) (length (T .flags) - 178));
+    }
+
+-- "the idle processor, one fixed value with no sweep open, which also stands before the first opening"
+unfoldable pub idleProcessor : Processor
+unfolding runningProcessor
+idleProcessor = runningProcessor 0 0 (record { flags = []; values = [] })
+
+unfoldable pub processorOf : Sweep → Processor
+unfolding idleProcessor runningProcessor
+processorOf none = idleProcessor
+processorOf (running mode azimuth T) = runningProcessor mode azimuth T
+
+abbrev pub isOpen : Sweep → Bool
+isOpen none = false
+isOpen (running mode azimuth T) = true
+
+abbrev pub takenBy : Sweep → ℕ
+takenBy none = 0
+takenBy (running mode azimuth T) = length (T .flags)
+
+-- what accepted calls make of a sweep: its mode is not 0, a flag and a value for each tick, within the limit, and values are bytes
+pub record Within (mode : ℕ) (T : Trace) : Type 0 where
+  pub named : 1 ≤ mode
+  pub alike : length (T .flags) ≡ length (T .values)
+  pub short : length (T .flags) ≤ sweepLimit
+  pub bytes : All (λ v. v ≤ 255) (T .values)
+
+abbrev pub Sound : Sweep → Type 0
+Sound none = Unit {0}
+Sound (running mode azimuth T) = Within mode T
+
+-- p is the processor of the sweep
+pub record Made (σ : Sweep) (p : Processor) : Type 0 where
+  pub is : p ≡ processorOf σ
+  pub sound : Sound σ

@@ -1,0 +1,3 @@
+-- Answers as numbers, and the refusals of a whole sweep.
+pub mod Numbers
+pub mod Whole
