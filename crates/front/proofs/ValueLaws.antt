@@ -67,6 +67,10 @@ more-values old values =
     ∙ drop-drop (length values) n (zs ++ (old ++ values))
     ∙ ap (λ (k : ℕ). drop k (zs ++ (old ++ values))) (sym (length-append old values))
 
+-- what is kept once more values come depends on what was kept before alone
+pub recent-more : (a b values : List ℕ) → recentOf a ≡ recentOf b → recentOf (a ++ values) ≡ recentOf (b ++ values)
+recent-more a b values e = sym (more-values a values) ∙ ap (λ (r : List ℕ). drop (length values) (r ++ values)) e ∙ more-values b values
+
 -- the values kept once the piece is taken
 pub keep-law : (recent values recent′ : List ℕ) → recent′ ≡ drop (length values) (recent ++ values) → KeepPost recent values recent′
 keep-law recent values recent′ e =

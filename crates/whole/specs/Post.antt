@@ -3,7 +3,7 @@ use Prim.Native.Nat.{ℕ, _+_, _-_, _*_, _/_, _^_, _≤_}
 use mathlib.Core.Bool.{false}
 use mathlib.Core.List.{List, []}
 use mathlib.Core.Path.{_≡_}
-use lib.ListN.{length}
+use lib.ListN.{length, take, drop}
 use Rattle.rules.specs.Settings.{standard}
 use Rattle.rules.specs.Lists.{any, All}
 use Rattle.rules.specs.Samples.{Trace, bad, pieceLimit, sweepLimit}
@@ -42,6 +42,10 @@ pub record WholePost (mode azimuth : ℕ) (T : Trace) (piece : ℕ) (b c : List 
   pub totalBytes : c′ ≡ totalsOf (wholeAnswer mode azimuth T piece (length b) (length c)) T c
 
 -- ---- all pieces
+
+-- what stands from one place on to before another
+abbrev pub part : ℕ → ℕ → List ℕ → List ℕ
+part from to l = take (to - from) (drop from l)
 
 -- what p has become after n ticks
 abbrev pub arrivedAt : Processor → Progress → List ℕ → ℕ → ℕ → Reached

@@ -4,7 +4,8 @@ ghost use mathlib.Core.Path.{_≡_};
 ghost use lib.ListN.{length, getD};
 ghost use Rattle.places.specs.Places.{idle};
 ghost use Rattle.refusals.specs.Whole.{wholeAnswer};
-ghost use Rattle.whole.specs.Post.{lent, arrivedAt, TakeAllPost, CloseAtPost, WholePost};
+ghost use Rattle.whole.specs.Post.{lent, part, arrivedAt, TakeAllPost, CloseAtPost, WholePost};
+ghost use Rattle.front.specs.Post.{KeepPost};
 ghost use Rattle.rules.specs.Calls.{accepted};
 ghost use Rattle.rules.specs.Buffers.{over};
 ghost use Rattle.frames.specs.Writing.{totalsBytes};
@@ -64,7 +65,18 @@ fn arrived(p: Processor, y: Progress, recent: [u8; 256], n: u32, at: usize) -> R
     }
 }
 
-// All pieces, of `piece` ticks each but for the last. A piece that finds nothing is taken in place.
+// Makes the kept values those up to tick `to`, from those up to tick `from`.
+fn keep_part(recent: &mut [u8; 256], values: &[u8], from: usize, to: usize)
+    requires { ⌜ (from ≤ to) × (to ≤ length (now values)) ⌝ }
+    ensures { λ _. ⌜ KeepPost (now (recent .entry)) (part from to (now (values .entry))) (now (recent .exit)) ⌝ }
+{
+    if from < to {
+        keep(recent, &values[from..to]);
+    }
+}
+
+// All pieces, of `piece` ticks each but for the last. One that finds nothing is passed over: `recent` has the values up to tick `kept`, and those
+// behind it are kept once a piece needs them.
 fn take_all(p: Processor, flags: &[u8], values: &[u8], piece: usize, out: &mut [u8]) -> Reached
     requires { ⌜ (length (now flags) ≡ length (now values)) × (1 ≤ piece) × (length (now flags) ≤ 32768) ⌝ }
     ensures { λ r. ⌜ TakeAllPost p (lent (now (flags .entry)) (now (values .entry))) piece (now (out .entry)) r (now (out .exit)) ⌝ }
@@ -72,15 +84,16 @@ fn take_all(p: Processor, flags: &[u8], values: &[u8], piece: usize, out: &mut [
     let n = flags.len();
     let mut y = progress_of(p);
     let mut recent = p.recent;
+    let mut kept: usize = 0;
     let mut at: usize = 0;
     let mut i: usize = 0;
     while i < n {
         let end = i + least(piece, n - i);
         if is_quiet(y.front, first_place(y), i as u32, &flags[i..end]) {
-            keep(&mut recent, &values[i..end]);
             i = end;
             continue;
         }
+        keep_part(&mut recent, values, kept, i);
         y = feed(
             y,
             &recent,
@@ -89,11 +102,13 @@ fn take_all(p: Processor, flags: &[u8], values: &[u8], piece: usize, out: &mut [
             &values[i..end],
             &mut out[at..],
         );
-        keep(&mut recent, &values[i..end]);
+        keep_part(&mut recent, values, i, end);
+        kept = end;
         at = behind(at, y.at, out.len());
         y.at = 0;
         i = end;
     }
+    keep_part(&mut recent, values, kept, n);
     arrived(p, y, recent, n as u32, at)
 }
 

@@ -1,17 +1,18 @@
--- `take_all` takes one piece after the other. The invariant: i ticks are taken, and what is due is in the buffer.
+-- `take_all` takes one piece after the other. The invariant: i ticks are taken, what is due is in the buffer, and the first `kept` values are kept.
 use Prim.Native.Nat.{ℕ, _+_, _-_}
 use native.Mathlib.Omega.{arith}
 use mathlib.Core.Path.{refl, ap}
 use lib.ListN.{length}
-use Rattle.whole.proofs.Taking.{all-bytes, Takings, takings-start, takings-fed, takings-quiet, takings-end}
+use Rattle.whole.proofs.Taking.{all-bytes}
+use Rattle.whole.proofs.Keeping.{Late, late-start, late-fed, late-quiet, late-end}
 use Rattle.whole.proofs.take_all.Statement.{statement}
 use Rattle.whole.proofs.take_all.Tie as tie
 
 abbrev Inv-loop : tie.InvT-loop
-Inv-loop p flags values piece out₀ n y₀ recent₀ at₀ i₀ out y recent at i = Takings p (record { flags = flags; values = values }) piece out₀ y recent at i out
+Inv-loop p flags values piece out₀ n y₀ recent₀ kept₀ at₀ i₀ out y recent kept at i = Late p (record { flags = flags; values = values }) piece out₀ y recent kept at i out
 
 abbrev μ-loop : tie.MeasureT-loop
-μ-loop p flags values piece out₀ n y₀ recent₀ at₀ i₀ out y recent at i = length flags - i
+μ-loop p flags values piece out₀ n y₀ recent₀ kept₀ at₀ i₀ out y recent kept at i = length flags - i
 
 progress-of-requires : tie.Need-progress-of-requires Inv-loop μ-loop
 progress-of-requires c κs = tt
@@ -20,7 +21,7 @@ loop-holds : tie.Need-loop-holds Inv-loop μ-loop
 loop-holds c =
     let progressof = c .before .progress-of in
     let a = c .before .before .before .before .before .args in
-    takings-start (a .p) (record { flags = a .flags .now; values = a .values .now }) (a .piece) (a .out .now) (c .before .before .before .before .before .pre .0) (progressof .result) (progressof .ensures)
+    late-start (a .p) (record { flags = a .flags .now; values = a .values .now }) (a .piece) (a .out .now) (c .before .before .before .before .before .pre .0) (progressof .result) (progressof .ensures)
 
 sub-least : tie.Need-sub-least Inv-loop μ-loop
 sub-least c = omega arith
@@ -49,27 +50,18 @@ part-is-quiet-end c = omega arith
 is-quiet-requires : tie.Need-is-quiet-requires Inv-loop μ-loop
 is-quiet-requires c κs = tt
 
-sub-keep : tie.Need-sub-keep Inv-loop μ-loop
-sub-keep c = omega arith
-
-part-keep-start : tie.Need-part-keep-start Inv-loop μ-loop
-part-keep-start c = omega arith
-
-part-keep-end : tie.Need-part-keep-end Inv-loop μ-loop
-part-keep-end c = omega arith
-
-keep-requires : tie.Need-keep-requires Inv-loop μ-loop
-keep-requires c κs = tt
-
 loop-less : tie.Need-loop-less Inv-loop μ-loop
 loop-less c = omega arith
 
 loop-again : tie.Need-loop-again Inv-loop μ-loop
 loop-again c =
-    let firstplace = c .before .before .before .before .before .before .first-place in
-    let l = c .before .before .before .before .before .before .before .before .before .loop in
-    let a = c .before .before .before .before .before .before .before .before .before .before .before .before .before .before .before .args in
-    takings-quiet (a .p) (record { flags = a .flags .now; values = a .values .now }) (a .piece) (a .out .now) (c .before .before .before .before .before .before .before .before .before .before .before .before .before .before .before .pre .0) (l .y) (l .recent) (l .at) (l .i) _ (l .out) (l .inv) (c .before .before .before .before .before .before .before .before .loop-test .taken) (ap (λ (n : ℕ). l .i + n) (c .before .before .before .before .before .before .before .least .ensures)) (all-bytes (a .values .now) (λ k. omega (arith, c .before .before .before .before .before .before .before .before .before .before .before .before .before .shared-slice-known2 .given k))) _ (c .keep .ensures) (firstplace .result) _ (firstplace .ensures) (c .before .before .before .before .is-quiet .ensures) (c .before .before .before .if1 .taken)
+    let firstplace = c .before .before .before .first-place in
+    let l = c .before .before .before .before .before .before .loop in
+    let a = c .before .before .before .before .before .before .before .before .before .before .before .before .args in
+    late-quiet (a .p) (record { flags = a .flags .now; values = a .values .now }) (a .piece) (a .out .now) (c .before .before .before .before .before .before .before .before .before .before .before .before .pre .0) (l .y) (l .recent) (l .kept) (l .at) (l .i) _ (l .out) (l .inv) (c .before .before .before .before .before .loop-test .taken) (ap (λ (n : ℕ). l .i + n) (c .before .before .before .before .least .ensures)) (all-bytes (a .values .now) (λ k. omega (arith, c .before .before .before .before .before .before .before .before .before .before .shared-slice-known2 .given k))) (firstplace .result) _ (firstplace .ensures) (c .before .is-quiet .ensures) (c .if1 .taken)
+
+keep-part-requires : tie.Need-keep-part-requires Inv-loop μ-loop
+keep-part-requires c κs = (c .before .before .before .before .before .before .before .loop .inv .behind, omega (arith, c .before .before .before .before .before .before .before .loop .inv .takings .reach, c .before .before .before .before .before .before .before .before .before .before .before .before .before .pre .0))
 
 cast-feed : tie.Need-cast-feed Inv-loop μ-loop
 cast-feed c = omega arith
@@ -104,31 +96,25 @@ part-feed-end-3 c = omega arith
 feed-requires : tie.Need-feed-requires Inv-loop μ-loop
 feed-requires c κs = tt
 
-sub-keep-2 : tie.Need-sub-keep-2 Inv-loop μ-loop
-sub-keep-2 c = omega arith
-
-part-keep-start-2 : tie.Need-part-keep-start-2 Inv-loop μ-loop
-part-keep-start-2 c = omega arith
-
-part-keep-end-2 : tie.Need-part-keep-end-2 Inv-loop μ-loop
-part-keep-end-2 c = omega (arith, c .before .before .before .before .before .before .before .before .before .before .before .before .least .ensures, c .before .before .before .before .before .before .before .before .before .before .before .before .before .before .before .before .before .before .before .before .pre .0)
-
-keep-requires-2 : tie.Need-keep-requires-2 Inv-loop μ-loop
-keep-requires-2 c κs = tt
+keep-part-requires-2 : tie.Need-keep-part-requires-2 Inv-loop μ-loop
+keep-part-requires-2 c κs = (omega arith, omega (arith, c .before .before .before .before .before .before .before .before .before .before .before .before .before .before .least .ensures, c .before .before .before .before .before .before .before .before .before .before .before .before .before .before .before .before .before .before .before .before .before .before .pre .0, c .before .before .before .before .before .before .before .before .before .before .before .before .before .before .before .loop-test .taken))
 
 behind-requires : tie.Need-behind-requires Inv-loop μ-loop
-behind-requires c κs = omega (arith, c .before .before .before .before .before .before .before .before .before .before .before .before .before .before .before .before .loop .inv .inside, c .before .before .before .before .before .before .before .before .before .before .before .before .before .before .before .before .loop .inv .size)
+behind-requires c κs = omega (arith, c .before .before .before .before .before .before .before .before .before .before .before .before .before .before .before .before .before .loop .inv .takings .inside, c .before .before .before .before .before .before .before .before .before .before .before .before .before .before .before .before .before .loop .inv .takings .size)
 
 loop-less-2 : tie.Need-loop-less-2 Inv-loop μ-loop
-loop-less-2 c = omega (arith, c .before .before .before .before .before .before .before .before .before .before .before .before .before .before .before .least .ensures, c .before .before .before .before .before .before .before .before .before .before .before .before .before .before .before .before .before .before .before .before .before .before .before .pre .1, c .before .before .before .before .before .before .before .before .before .before .before .before .before .before .before .before .loop-test .taken)
+loop-less-2 c = omega (arith, c .before .before .before .before .before .before .before .before .before .before .before .before .before .before .before .before .least .ensures, c .before .before .before .before .before .before .before .before .before .before .before .before .before .before .before .before .before .before .before .before .before .before .before .before .pre .1, c .before .before .before .before .before .before .before .before .before .before .before .before .before .before .before .before .before .loop-test .taken)
 
 loop-again-2 : tie.Need-loop-again-2 Inv-loop μ-loop
 loop-again-2 c =
-    let out = c .before .before .before .before .before .out in
-    let feed = c .before .before .before .before .before .before .feed in
-    let l = c .before .before .before .before .before .before .before .before .before .before .before .before .before .before .before .before .before .loop in
-    let a = c .before .before .before .before .before .before .before .before .before .before .before .before .before .before .before .before .before .before .before .before .before .before .before .args in
-    takings-fed (a .p) (record { flags = a .flags .now; values = a .values .now }) (a .piece) (a .out .now) (c .before .before .before .before .before .before .before .before .before .before .before .before .before .before .before .before .before .before .before .before .before .before .before .pre .0) (l .y) (l .recent) (l .at) (l .i) _ (l .out) (l .inv) (c .before .before .before .before .before .before .before .before .before .before .before .before .before .before .before .before .loop-test .taken) (ap (λ (n : ℕ). l .i + n) (c .before .before .before .before .before .before .before .before .before .before .before .before .before .before .before .least .ensures)) (all-bytes (a .values .now) (λ k. omega (arith, c .before .before .before .before .before .before .before .before .before .before .before .before .before .before .before .before .before .before .before .before .before .shared-slice-known2 .given k))) _ (c .before .keep2 .ensures) (feed .result) _ _ (feed .ensures) (omega (arith, c .behind .ensures, out .given)) (omega (arith, out .given))
+    let out = c .before .before .before .before .out in
+    let feed = c .before .before .before .before .before .feed in
+    let l = c .before .before .before .before .before .before .before .before .before .before .before .before .before .before .before .before .before .before .loop in
+    let a = c .before .before .before .before .before .before .before .before .before .before .before .before .before .before .before .before .before .before .before .before .before .before .before .before .args in
+    late-fed (a .p) (record { flags = a .flags .now; values = a .values .now }) (a .piece) (a .out .now) (c .before .before .before .before .before .before .before .before .before .before .before .before .before .before .before .before .before .before .before .before .before .before .before .before .pre .0) (l .y) (l .recent) (l .kept) (l .at) (l .i) _ (l .out) (l .inv) (c .before .before .before .before .before .before .before .before .before .before .before .before .before .before .before .before .before .loop-test .taken) (ap (λ (n : ℕ). l .i + n) (c .before .before .before .before .before .before .before .before .before .before .before .before .before .before .before .before .least .ensures)) (all-bytes (a .values .now) (λ k. omega (arith, c .before .before .before .before .before .before .before .before .before .before .before .before .before .before .before .before .before .before .before .before .before .before .shared-slice-known2 .given k))) _ _ (c .before .before .before .before .before .before .before .before .before .before .keep-part .ensures) (c .before .keep-part2 .ensures) (feed .result) _ _ (feed .ensures) (omega (arith, c .behind .ensures, out .given)) (omega (arith, out .given))
+
+keep-part-requires-3 : tie.Need-keep-part-requires-3 Inv-loop μ-loop
+keep-part-requires-3 c κs = (omega (arith, c .before .before .loop .inv .behind, c .before .before .loop .inv .takings .reach), omega (arith, c .before .before .before .before .before .before .before .before .pre .0))
 
 cast-arrived : tie.Need-cast-arrived Inv-loop μ-loop
 cast-arrived c = omega arith
@@ -137,13 +123,13 @@ arrived-requires : tie.Need-arrived-requires Inv-loop μ-loop
 arrived-requires c κs = tt
 
 same-length : tie.Need-same-length Inv-loop μ-loop
-same-length c = c .before .before .loop .inv .size
+same-length c = c .before .before .before .before .loop .inv .takings .size
 
 returns : tie.Need-returns Inv-loop μ-loop
 returns c =
-    let l = c .before .before .loop in
-    let a = c .before .before .before .before .before .before .before .before .args in
-    takings-end (a .p) (record { flags = a .flags .now; values = a .values .now }) (a .piece) (a .out .now) (c .before .before .before .before .before .before .before .before .pre .0) (l .y) (l .recent) (l .at) (l .i) _ (l .out) _ (omega arith) refl (c .arrived .ensures) (l .inv)
+    let l = c .before .before .before .before .loop in
+    let a = c .before .before .before .before .before .before .before .before .before .before .args in
+    late-end (a .p) (record { flags = a .flags .now; values = a .values .now }) (a .piece) (a .out .now) (c .before .before .before .before .before .before .before .before .before .before .pre .0) (l .y) (l .recent) (l .kept) (l .at) (l .i) _ (l .out) _ _ (omega arith) refl (c .before .keep-part3 .ensures) (c .arrived .ensures) (l .inv)
 
 pub take-all-spec : {M : Type 1} → statement M
 take-all-spec =
@@ -162,12 +148,9 @@ take-all-spec =
     part-is-quiet-start
     part-is-quiet-end
     is-quiet-requires
-    sub-keep
-    part-keep-start
-    part-keep-end
-    keep-requires
     loop-less
     loop-again
+    keep-part-requires
     cast-feed
     sub-feed
     part-feed-start
@@ -179,13 +162,11 @@ take-all-spec =
     part-feed-start-3
     part-feed-end-3
     feed-requires
-    sub-keep-2
-    part-keep-start-2
-    part-keep-end-2
-    keep-requires-2
+    keep-part-requires-2
     behind-requires
     loop-less-2
     loop-again-2
+    keep-part-requires-3
     cast-arrived
     arrived-requires
     same-length
