@@ -89,7 +89,9 @@ fn take_all(p: Processor, flags: &[u8], values: &[u8], piece: usize, out: &mut [
     let mut i: usize = 0;
     while i < n {
         let end = i + least(piece, n - i);
-        if is_quiet(y.front, first_place(y), i as u32, &flags[i..end]) {
+        let front = y.front;
+        let first = first_place(y);
+        if is_quiet(front, first, i as u32, &flags[i..end]) {
             i = end;
             continue;
         }

@@ -56,12 +56,12 @@ loop-less c = omega arith
 loop-again : tie.Need-loop-again Inv-loop μ-loop
 loop-again c =
     let firstplace = c .before .before .before .first-place in
-    let l = c .before .before .before .before .before .before .loop in
-    let a = c .before .before .before .before .before .before .before .before .before .before .before .before .args in
-    late-quiet (a .p) (record { flags = a .flags .now; values = a .values .now }) (a .piece) (a .out .now) (c .before .before .before .before .before .before .before .before .before .before .before .before .pre .0) (l .y) (l .recent) (l .kept) (l .at) (l .i) _ (l .out) (l .inv) (c .before .before .before .before .before .loop-test .taken) (ap (λ (n : ℕ). l .i + n) (c .before .before .before .before .least .ensures)) (all-bytes (a .values .now) (λ k. omega (arith, c .before .before .before .before .before .before .before .before .before .before .shared-slice-known2 .given k))) (firstplace .result) _ (firstplace .ensures) (c .before .is-quiet .ensures) (c .if1 .taken)
+    let l = c .before .before .before .before .before .before .before .loop in
+    let a = c .before .before .before .before .before .before .before .before .before .before .before .before .before .args in
+    late-quiet (a .p) (record { flags = a .flags .now; values = a .values .now }) (a .piece) (a .out .now) (c .before .before .before .before .before .before .before .before .before .before .before .before .before .pre .0) (l .y) (l .recent) (l .kept) (l .at) (l .i) _ (l .out) (l .inv) (c .before .before .before .before .before .before .loop-test .taken) (ap (λ (n : ℕ). l .i + n) (c .before .before .before .before .before .least .ensures)) (all-bytes (a .values .now) (λ k. omega (arith, c .before .before .before .before .before .before .before .before .before .before .before .shared-slice-known2 .given k))) (firstplace .result) _ (firstplace .ensures) (c .before .is-quiet .ensures) (c .if1 .taken)
 
 keep-part-requires : tie.Need-keep-part-requires Inv-loop μ-loop
-keep-part-requires c κs = (c .before .before .before .before .before .before .before .loop .inv .behind, omega (arith, c .before .before .before .before .before .before .before .loop .inv .takings .reach, c .before .before .before .before .before .before .before .before .before .before .before .before .before .pre .0))
+keep-part-requires c κs = (c .before .before .before .before .before .before .before .before .loop .inv .behind, omega (arith, c .before .before .before .before .before .before .before .before .loop .inv .takings .reach, c .before .before .before .before .before .before .before .before .before .before .before .before .before .before .pre .0))
 
 cast-feed : tie.Need-cast-feed Inv-loop μ-loop
 cast-feed c = omega arith
@@ -97,21 +97,21 @@ feed-requires : tie.Need-feed-requires Inv-loop μ-loop
 feed-requires c κs = tt
 
 keep-part-requires-2 : tie.Need-keep-part-requires-2 Inv-loop μ-loop
-keep-part-requires-2 c κs = (omega arith, omega (arith, c .before .before .before .before .before .before .before .before .before .before .before .before .before .before .least .ensures, c .before .before .before .before .before .before .before .before .before .before .before .before .before .before .before .before .before .before .before .before .before .before .pre .0, c .before .before .before .before .before .before .before .before .before .before .before .before .before .before .before .loop-test .taken))
+keep-part-requires-2 c κs = (omega arith, omega (arith, c .before .before .before .before .before .before .before .before .before .before .before .before .before .before .before .least .ensures, c .before .before .before .before .before .before .before .before .before .before .before .before .before .before .before .before .before .before .before .before .before .before .before .pre .0, c .before .before .before .before .before .before .before .before .before .before .before .before .before .before .before .before .loop-test .taken))
 
 behind-requires : tie.Need-behind-requires Inv-loop μ-loop
-behind-requires c κs = omega (arith, c .before .before .before .before .before .before .before .before .before .before .before .before .before .before .before .before .before .loop .inv .takings .inside, c .before .before .before .before .before .before .before .before .before .before .before .before .before .before .before .before .before .loop .inv .takings .size)
+behind-requires c κs = omega (arith, c .before .before .before .before .before .before .before .before .before .before .before .before .before .before .before .before .before .before .loop .inv .takings .inside, c .before .before .before .before .before .before .before .before .before .before .before .before .before .before .before .before .before .before .loop .inv .takings .size)
 
 loop-less-2 : tie.Need-loop-less-2 Inv-loop μ-loop
-loop-less-2 c = omega (arith, c .before .before .before .before .before .before .before .before .before .before .before .before .before .before .before .before .least .ensures, c .before .before .before .before .before .before .before .before .before .before .before .before .before .before .before .before .before .before .before .before .before .before .before .before .pre .1, c .before .before .before .before .before .before .before .before .before .before .before .before .before .before .before .before .before .loop-test .taken)
+loop-less-2 c = omega (arith, c .before .before .before .before .before .before .before .before .before .before .before .before .before .before .before .before .before .least .ensures, c .before .before .before .before .before .before .before .before .before .before .before .before .before .before .before .before .before .before .before .before .before .before .before .before .before .pre .1, c .before .before .before .before .before .before .before .before .before .before .before .before .before .before .before .before .before .before .loop-test .taken)
 
 loop-again-2 : tie.Need-loop-again-2 Inv-loop μ-loop
 loop-again-2 c =
     let out = c .before .before .before .before .out in
     let feed = c .before .before .before .before .before .feed in
-    let l = c .before .before .before .before .before .before .before .before .before .before .before .before .before .before .before .before .before .before .loop in
-    let a = c .before .before .before .before .before .before .before .before .before .before .before .before .before .before .before .before .before .before .before .before .before .before .before .before .args in
-    late-fed (a .p) (record { flags = a .flags .now; values = a .values .now }) (a .piece) (a .out .now) (c .before .before .before .before .before .before .before .before .before .before .before .before .before .before .before .before .before .before .before .before .before .before .before .before .pre .0) (l .y) (l .recent) (l .kept) (l .at) (l .i) _ (l .out) (l .inv) (c .before .before .before .before .before .before .before .before .before .before .before .before .before .before .before .before .before .loop-test .taken) (ap (λ (n : ℕ). l .i + n) (c .before .before .before .before .before .before .before .before .before .before .before .before .before .before .before .before .least .ensures)) (all-bytes (a .values .now) (λ k. omega (arith, c .before .before .before .before .before .before .before .before .before .before .before .before .before .before .before .before .before .before .before .before .before .before .shared-slice-known2 .given k))) _ _ (c .before .before .before .before .before .before .before .before .before .before .keep-part .ensures) (c .before .keep-part2 .ensures) (feed .result) _ _ (feed .ensures) (omega (arith, c .behind .ensures, out .given)) (omega (arith, out .given))
+    let l = c .before .before .before .before .before .before .before .before .before .before .before .before .before .before .before .before .before .before .before .loop in
+    let a = c .before .before .before .before .before .before .before .before .before .before .before .before .before .before .before .before .before .before .before .before .before .before .before .before .before .args in
+    late-fed (a .p) (record { flags = a .flags .now; values = a .values .now }) (a .piece) (a .out .now) (c .before .before .before .before .before .before .before .before .before .before .before .before .before .before .before .before .before .before .before .before .before .before .before .before .before .pre .0) (l .y) (l .recent) (l .kept) (l .at) (l .i) _ (l .out) (l .inv) (c .before .before .before .before .before .before .before .before .before .before .before .before .before .before .before .before .before .before .loop-test .taken) (ap (λ (n : ℕ). l .i + n) (c .before .before .before .before .before .before .before .before .before .before .before .before .before .before .before .before .before .least .ensures)) (all-bytes (a .values .now) (λ k. omega (arith, c .before .before .before .before .before .before .before .before .before .before .before .before .before .before .before .before .before .before .before .before .before .before .before .shared-slice-known2 .given k))) _ _ (c .before .before .before .before .before .before .before .before .before .before .keep-part .ensures) (c .before .keep-part2 .ensures) (feed .result) _ _ (feed .ensures) (omega (arith, c .behind .ensures, out .given)) (omega (arith, out .given))
 
 keep-part-requires-3 : tie.Need-keep-part-requires-3 Inv-loop μ-loop
 keep-part-requires-3 c κs = (omega (arith, c .before .before .loop .inv .behind, c .before .before .loop .inv .takings .reach), omega (arith, c .before .before .before .before .before .before .before .before .pre .0))
