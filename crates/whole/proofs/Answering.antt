@@ -18,7 +18,7 @@ use Rattle.rules.specs.Calls.{Answer, accepted, refused, openAnswer, handed, re
 use Rattle.rules.proofs.Truth.{and-left, and-right}
 use Rattle.rules.proofs.Joining.{handed-rest, records-append, records-length}
 use Rattle.rules.proofs.HandingOut.{rest-most}
-use Rattle.sweep.specs.declared.Opened.{Opened}
+use Rattle.processor.specs.declared.Processor.{Processor}
 use Rattle.processor.specs.State.{running, runningProcessor, processorOf, Made}
 use Rattle.sweep.specs.Post.{openOf}
 use Rattle.rules.proofs.Answers.{standard-allowed}
@@ -103,17 +103,17 @@ clear mode azimuth T piece b c e =
     }
 
 -- the processor of the opening
-opened : (mode azimuth : ℕ) (o : Opened) → o ≡ openOf mode azimuth → 1 ≤ mode → mode ≤ 3 → azimuth ≤ 16383 → o .processor ≡ runningProcessor mode azimuth (record { flags = []; values = [] })
+opened : (mode azimuth : ℕ) (p : Processor) → p ≡ openOf mode azimuth .processor → 1 ≤ mode → mode ≤ 3 → azimuth ≤ 16383 → p ≡ runningProcessor mode azimuth (record { flags = []; values = [] })
 unfolding openOf openAnswer
-opened mode azimuth o e a b c =
-    ap (λ (x : Opened). x .processor) e ∙ rw (le-leb 1 mode a, le-leb mode 3 b, le-ltb 16383 azimuth c)
+opened mode azimuth p e a b c =
+    e ∙ rw (le-leb 1 mode a, le-leb mode 3 b, le-ltb 16383 azimuth c)
 
 module _ (mode azimuth : ℕ) (T : Trace) (piece : ℕ) (b c : List ℕ) (ok : Clear mode azimuth T piece b c) (bytes : All (λ v. v ≤ 255) (T .values))
-    (o : Opened) (is : o ≡ openOf mode azimuth) (r : Reached) (b₁ : List ℕ) (all : TakeAllPost (o .processor) T piece b r b₁) (n : ℕ) (b₂ c₂ : List ℕ)
+    (p : Processor) (is : p ≡ openOf mode azimuth .processor) (r : Reached) (b₁ : List ℕ) (all : TakeAllPost p T piece b r b₁) (n : ℕ) (b₂ c₂ : List ℕ)
     (end : CloseAtPost (r .processor) (r .at) b₁ c n b₂ c₂) (same : length b₁ ≡ length b) where
   done : Taken mode azimuth T b r b₁
   done =
-      all .result mode azimuth (opened mode azimuth o is (ok .named) (ok .known) (ok .turned))
+      all .result mode azimuth (opened mode azimuth p is (ok .named) (ok .known) (ok .turned))
       (record { named = ok .named; most = ok .most; short = ok .short; room = ok .room; good = ok .good; bytes = bytes })
 
   made : Made (running mode azimuth T) (r .processor)

@@ -7,6 +7,7 @@ ghost use Rattle.refusals.specs.Whole.{wholeAnswer};
 ghost use Rattle.whole.specs.Post.{lent, part, arrivedAt, TakeAllPost, CloseAtPost, WholePost};
 ghost use Rattle.front.specs.Post.{KeepPost};
 ghost use Rattle.rules.specs.Calls.{accepted};
+ghost use Rattle.sweep.specs.Post.{openOf};
 ghost use Rattle.rules.specs.Buffers.{over};
 ghost use Rattle.frames.specs.Writing.{totalsBytes};
 use blocks::is_quiet;
@@ -142,6 +143,14 @@ fn put_totals(t: Totals, totals: &mut [u8])
     }
 }
 
+// The processor of an opening.
+fn opened(mode: u8, azimuth: u16) -> Processor
+    ensures { λ p. ⌜ p ≡ openOf mode azimuth .processor ⌝ }
+{
+    let o = open(mode, azimuth);
+    o.processor
+}
+
 // A whole sweep that nothing turns down. Answers how many records there are.
 fn swept(
     mode: u8,
@@ -155,12 +164,8 @@ fn swept(
     requires { ⌜ wholeAnswer mode azimuth (lent (now flags) (now values)) piece (length (now out)) (length (now totals)) ≡ accepted ⌝ }
     ensures { λ r. ⌜ WholePost mode azimuth (lent (now (flags .entry)) (now (values .entry))) piece (now (out .entry)) (now (totals .entry)) r (now (out .exit)) (now (totals .exit)) ⌝ }
 {
-    let o = open(mode, azimuth);
-    let p = o.processor;
-    let t = take_all(p, flags, values, piece, out);
-    let at = t.at;
-    let q = t.processor;
-    let count = close_at(q, out, at, totals);
+    let t = take_all(opened(mode, azimuth), flags, values, piece, out);
+    let count = close_at(t.processor, out, t.at, totals);
     (count % 65536) as u32
 }
 
