@@ -472,3 +472,7 @@ full-post p line at b q =
       result = λ σ m. ap (λ (t : Bool). steppedAs t (lineAt σ line) p at) (sym q);
       output = λ σ m. ap (λ (t : Bool). outputAs t (lineAt σ line) at b) (sym q);
     }
+
+-- what is promised of an answer, of one that is equal to it
+pub answer-as : (o : Sweep → Outcome) (p : Processor) (at : ℕ) (b : List ℕ) (x r : Stepped) (b′ : List ℕ) → r ≡ x → AnswerPost o p at b x b′ → AnswerPost o p at b r b′
+answer-as o p at b x r b′ e h = subst (λ (z : Stepped). AnswerPost o p at b z b′) (sym e) h

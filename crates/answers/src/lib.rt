@@ -34,6 +34,12 @@ pub struct Stepped {
     pub processor: Processor,
 }
 
+fn with_processor(step: Step, processor: Processor) -> Stepped
+    ensures { λ r. ⌜ r ≡ record { step = step; processor = processor } ⌝ }
+{
+    Stepped { step, processor }
+}
+
 // A refusal stops the survey.
 fn stop(p: Processor, number: u8, out: &mut [u8], at: usize) -> Stepped
     requires { ⌜ at + 339 ≤ length (now out) ⌝ }
@@ -55,13 +61,7 @@ fn opened(p: Processor, mode: u8, azimuth: u16, out: &mut [u8], at: usize) -> St
     let answer = o.answer;
     match answer {
         Answer::Refused(number) => stop(p, number, out, at),
-        Answer::Accepted(_) => {
-            let next = o.processor;
-            Stepped {
-                step: Step::Goes(at),
-                processor: next,
-            }
-        }
+        Answer::Accepted(_) => with_processor(Step::Goes(at), o.processor),
     }
 }
 
@@ -90,11 +90,7 @@ fn taken(p: Processor, flags: &[u8], values: &[u8], out: &mut [u8], at: usize) -
     let t = take(p, flags, values, &mut handed);
     let answer = t.answer;
     let step = show_take(answer, &handed, out, at);
-    let after = t.processor;
-    Stepped {
-        step,
-        processor: after,
-    }
+    with_processor(step, t.processor)
 }
 
 // What a close prints: its replies, which stand in the buffer that it was lent, and the totals.
@@ -121,10 +117,8 @@ fn closed(p: Processor, out: &mut [u8], at: usize) -> Stepped
     let mut handed = [0u8; 144];
     let c = close(p, &mut handed);
     let answer = c.answer;
-    let totals = c.totals;
-    let step = show_close(answer, totals, &handed, out, at);
-    let processor = c.processor;
-    Stepped { step, processor }
+    let step = show_close(answer, c.totals, &handed, out, at);
+    with_processor(step, c.processor)
 }
 
 fn number_of(line: Line) -> u8

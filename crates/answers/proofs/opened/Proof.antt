@@ -1,4 +1,4 @@
-use Rattle.answers.proofs.Answering.{open-refused, open-accepted}
+use Rattle.answers.proofs.Answering.{answer-as, open-refused, open-accepted}
 use borrow.Author.Needs.{needs}
 use Rattle.answers.proofs.opened.Statement.{statement}
 use Rattle.answers.proofs.opened.Tie as tie
@@ -19,6 +19,9 @@ stop-requires c κs = search needs
 enum-told : tie.Need-enum-told
 enum-told c = search needs
 
+with-processor-requires : tie.Need-with-processor-requires
+with-processor-requires c κs = search needs
+
 same-length : tie.Need-same-length
 same-length c = search needs
 
@@ -30,7 +33,8 @@ returns c =
 returns-2 : tie.Need-returns-2
 returns-2 c =
     let a = c .before .before .before .before .before .args in
-    open-accepted (a .p) (a .at) (a .out .now) (c .before .before .before .before .before .pre) (a .mode) (a .azimuth) _ (c .before .before .before .«open» .ensures) _ (c .before .enum-told .given .1)
+    answer-as _ (a .p) (a .at) (a .out .now) _ _ _ (c .with-processor .ensures)
+    (open-accepted (a .p) (a .at) (a .out .now) (c .before .before .before .before .before .pre) (a .mode) (a .azimuth) _ (c .before .before .before .«open» .ensures) _ (c .before .enum-told .given .1))
 
 pub opened-spec : {M : Type 1} → statement M
 opened-spec =
@@ -40,6 +44,7 @@ opened-spec =
     enum-known-answer
     stop-requires
     enum-told
+    with-processor-requires
     same-length
     returns
     returns-2)
