@@ -1,24 +1,18 @@
 -- Flags and values, block by block. What each block hands out comes behind what the blocks before it did.
-use Prim.Native.Nat.{ℕ, zero, suc, _+_, _-_, _*_, _/_, _≤_, _<_}
+use Prim.Native.Nat.{ℕ, _+_, _-_, _*_, _/_, _≤_, _<_}
 use native.Mathlib.Omega.{arith}
-use mathlib.Core.Path.{_≡_, refl, sym, ap, ap₂, _∙_, subst}
+use mathlib.Core.Path.{_≡_, refl, sym, ap, _∙_, subst}
 use mathlib.Core.Bool.{Bool, true, false}
-use mathlib.Core.List.{List, [], _∷_, _++_, append-nil}
-use lib.ListN.{length, getD, take, drop, replicate, length-append, length-take, length-drop, length-replicate, replicate-append-replicate}
-use lib.Seq.{getD-take, getD-drop, take-add, take-all, take-append-add, length-take-le}
+use mathlib.Core.List.{List, [], _++_, append-nil}
+use lib.ListN.{length, getD, take, drop, length-take, length-drop}
+use lib.Seq.{getD-take, getD-drop, take-add, take-all, length-take-le}
 use Rattle.rules.specs.declared.Reply.{Reply}
 use Rattle.rules.specs.Settings.{standard}
-use Rattle.rules.specs.Lists.{All}
 use Rattle.rules.specs.Samples.{Trace, _⧺_, A, P, N, M, odd}
-use Rattle.rules.specs.Edges.{stands, edgeAt}
 use Rattle.rules.specs.Buffers.{over-at}
 use Rattle.rules.specs.Records.{records}
-use Rattle.rules.specs.Calls.{fresh, handed, silence}
-use Rattle.rules.proofs.ListLaws.{all-append}
-use Rattle.rules.proofs.Apart.{edge-end}
-use Rattle.rules.proofs.Joining.{append-same, fresh-join, handed-fresh}
-use Rattle.rules.proofs.HandingOut.{fresh-most, rest-most}
-use Rattle.rules.proofs.PastEnd.{zeros-alike, edge-silence, rest-silence}
+use Rattle.rules.specs.Calls.{fresh, handed}
+use Rattle.rules.proofs.Joining.{append-same, handed-fresh}
 use Rattle.rules.proofs.Answers.{standard-allowed, join-nothing}
 use Rattle.plane.specs.Words.{Holds, HoldsPart}
 use Rattle.plane.proofs.BitLaws.{zero-bit, bit-above}
@@ -28,8 +22,7 @@ use Rattle.flags.specs.Flags.{FlaglessBlock}
 use Rattle.packing.proofs.FlagBits.{A-bit, P-bit, N-bit, M-bit}
 use Rattle.places.specs.Places.{machineOf}
 use Rattle.front.specs.Words.{frontOf}
-use Rattle.front.specs.Post.{Low, Reads, valueOf}
-use Rattle.front.proofs.ValueLaws.{value-law}
+use Rattle.front.specs.Post.{Low, Reads}
 use Rattle.processor.specs.declared.Progress.{Progress}
 use Rattle.blocks.specs.Steps.{stateAt, Bounded, Fed, Next, BlockPost}
 use Rattle.processor.specs.Arrays.{machineAt}

@@ -1,15 +1,12 @@
 -- A reply that leaves its place: the places hold the list without it, and a bracket makes the same of the rest.
-use Prim.Native.Nat.{ℕ, zero, suc, _+_, _%_, _≤_, _<_}
+use Prim.Native.Nat.{ℕ, zero, suc, _+_, _≤_, _<_}
 use native.Mathlib.Omega.{arith}
-use mathlib.Core.Logic.{_⊎_, inl, inr}
 use mathlib.Core.Path.{_≡_, refl, sym, ap, _∙_, subst}
-use mathlib.Core.Bool.{Bool, true, false, not, _&&_, _||_, cond}
+use mathlib.Core.Bool.{Bool, true, false, _||_, cond}
 use mathlib.Core.List.{List, [], _∷_, _++_, append-assoc}
 use lib.Dec.{ltb}
 use lib.ListN.{length, getD}
 use Rattle.rules.specs.declared.Reply.{Reply}
-use Rattle.rules.specs.declared.Slot.{Slot}
-use Rattle.rules.specs.declared.Slot.the-variants.{Idle, Open}
 use Rattle.rules.specs.declared.Place.{Place}
 use Rattle.rules.specs.declared.Pulse.{Pulse}
 use Rattle.rules.specs.declared.Counts.{Counts}
@@ -18,10 +15,10 @@ use Rattle.rules.specs.declared.Fate.{Fate}
 use Rattle.rules.specs.declared.Fate.the-variants.{Sidelobe, Garbled, Lost, Opens}
 use Rattle.rules.specs.Lists.{All, reject, filter, count}
 use Rattle.rules.specs.Replies.{f1, covers, isPhantom, ended}
-use Rattle.rules.specs.Machine.{State, retired, fateBy, fate, clear, opened, liveAfter, tally, bracket}
+use Rattle.rules.specs.Machine.{State, retired, fateBy, fate, opened, liveAfter, tally, bracket}
 use Rattle.rules.proofs.Truth.{impossible}
 use Rattle.handing.specs.Post.{InOrder}
-use Rattle.places.specs.Places.{test, testSlot, idle, placeAt, placed}
+use Rattle.places.specs.Places.{test, idle, placeAt, placed}
 use Rattle.marking.specs.declared.Words.{Words}
 use Rattle.marking.specs.Marks.{four, Marked, AllMarked, withoutWord, withoutPlace, behindOf, lastOf, lastOn}
 use Rattle.marking.proofs.Marking.{without-marked}

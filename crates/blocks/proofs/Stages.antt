@@ -1,5 +1,5 @@
 -- The machine between two visits, and while a visit goes on: what is known of its state, and which state of the rules comes next.
-use Prim.Native.Nat.{ℕ, zero, suc, _+_, _-_, _≤_, _<_}
+use Prim.Native.Nat.{ℕ, suc, _+_, _-_, _≤_, _<_}
 use native.Mathlib.Omega.{arith}
 use mathlib.Core.Path.{_≡_, refl, sym, ap, _∙_, subst}
 use mathlib.Core.Bool.{Bool, true, false, _||_}
@@ -21,7 +21,7 @@ use Rattle.rules.specs.Machine.{State, retired, bracketAt, bracket, deal, edgeS
 use Rattle.rules.specs.Records.{replies}
 use Rattle.rules.proofs.Truth.{impossible}
 use Rattle.rules.proofs.ListLaws.{all-map, filter-none, reject-none}
-use Rattle.rules.proofs.Order.{Ordered, rising-all, ordered}
+use Rattle.rules.proofs.Order.{rising-all, ordered}
 use Rattle.rules.proofs.Outcomes.{Balanced, after-balanced, after-found}
 use Rattle.rules.proofs.Printed.{brackets-most}
 use Rattle.rules.proofs.Settled.{edge-timed}
@@ -31,7 +31,7 @@ use Rattle.rules.proofs.Answers.{standard-allowed}
 use Rattle.handing.specs.Post.{Queue}
 use Rattle.handing.proofs.Handing.{ordered-queue}
 use Rattle.places.specs.Places.{test, placeAt}
-use Rattle.places.specs.Post.{Small, f2Value, Fits}
+use Rattle.places.specs.Post.{f2Value, Fits}
 use Rattle.places.proofs.Steps.{balanced-small}
 use Rattle.plane.specs.Words.{bit, Lowest}
 use Rattle.plane.proofs.BitLaws.{zero-bit}
@@ -39,7 +39,7 @@ use Rattle.span.specs.declared.Span.{Span}
 use Rattle.front.proofs.Growing.{padded-none}
 use Rattle.span.proofs.Spans.{span-stands}
 use Rattle.blocks.specs.Steps.{stateAt, Bounded, Shows}
-use Rattle.blocks.specs.Leaving.{removed, lessPhantom}
+use Rattle.blocks.specs.Leaving.{lessPhantom}
 use Rattle.blocks.proofs.Leaving.{removed-order, removed-all, removed-length, removed-short, phantom-same, over-first}
 
 -- ---- a state as the machine's functions want it; its replies began before tick c

@@ -1,5 +1,5 @@
 -- The bracket at a visit, if one stands there: what is left to do is to deal the edge.
-use Prim.Native.Nat.{ℕ, _+_, _≤_, _<_}
+use Prim.Native.Nat.{ℕ, _+_, _≤_}
 use native.Mathlib.Omega.{arith}
 use mathlib.Core.Path.{_≡_, refl, sym, ap, _∙_, subst}
 use mathlib.Core.Bool.{Bool, true, false, cond}
@@ -8,7 +8,7 @@ use lib.ListN.{length}
 use Rattle.rules.specs.declared.Place.{Place}
 use Rattle.rules.specs.declared.Pulse.{Pulse}
 use Rattle.rules.specs.declared.Counts.{Counts}
-use Rattle.rules.specs.declared.Bracket.the-variants.{Without, With}
+use Rattle.rules.specs.declared.Bracket.the-variants.{With}
 use Rattle.plane.specs.Words.{bit, Lowest, WithoutLowest}
 use Rattle.marking.specs.declared.Words.{Words}
 use Rattle.firsts.specs.declared.Firsts.{Firsts}

@@ -5,9 +5,9 @@ use mathlib.Core.Logic.{_⊎_, inl, inr}
 use mathlib.Core.Path.{_≡_, refl, sym, ap, _∙_, subst}
 use mathlib.Core.Bool.{Bool, true, false, not, _&&_, _||_, cond}
 use mathlib.Core.List.{List, [], _∷_}
-use lib.Dec.{eqb, ltb}
+use lib.Dec.{ltb}
 use lib.ListN.{length, getD, set, length-set}
-use borrow.Author.Tests.{ltb-true, ltb-false, lt-ltb}
+use borrow.Author.Tests.{ltb-true, lt-ltb}
 use Rattle.rules.specs.declared.Reply.{Reply}
 use Rattle.rules.specs.declared.Slot.{Slot}
 use Rattle.rules.specs.declared.Slot.the-variants.{Idle, Open}
@@ -15,23 +15,21 @@ use Rattle.rules.specs.declared.Place.{Place}
 use Rattle.rules.specs.declared.Places.{Places}
 use Rattle.rules.specs.declared.Pulse.{Pulse}
 use Rattle.rules.specs.declared.Counts.{Counts}
-use Rattle.rules.specs.declared.Machine.{Machine}
 use Rattle.rules.specs.declared.Bracket.{Bracket}
 use Rattle.rules.specs.declared.Bracket.the-variants.{Without, With}
 use Rattle.rules.specs.declared.Fate.{Fate}
 use Rattle.rules.specs.declared.Fate.the-variants.{Sidelobe, Garbled, Lost, Opens}
 use Rattle.rules.specs.Lists.{All}
-use Rattle.rules.specs.Replies.{f1, position, isPosition, covers, isPhantom, hear, takes, heardAt, verdict, agrees}
+use Rattle.rules.specs.Replies.{f1, position, covers, isPhantom, hear, takes, heardAt, verdict, agrees}
 use Rattle.rules.specs.Machine.{openedBy, fateBy, tally}
 use Rattle.rules.specs.Settings.{standard}
 use Rattle.rules.proofs.Truth.{impossible, or-left, or-right}
 use Rattle.replies.specs.Sums.{wrapped}
-use Rattle.places.specs.Places.{test, testSlot, always, idle, any3, anyIn, countIn, withoutIn, withoutBy, pushed, placesAfter, hearSlot, hearIn, dealt, openedIn, fateIn, bracketOn, bracketIf, stepOn, placeAt, placed}
+use Rattle.places.specs.Places.{test, testSlot, always, idle, any3, anyIn, countIn, withoutIn, withoutBy, pushed, placesAfter, hearSlot, dealt, openedIn, fateIn, bracketOn, stepOn, placeAt, placed}
 use Rattle.masks.specs.Masks.{coversFrom, phantomFrom, CoverMask, PhantomMask}
-use Rattle.plane.specs.Words.{bit}
 use Rattle.marking.specs.declared.Words.{Words}
-use Rattle.marking.specs.Marks.{four, Marked, AllMarked, withWord, lastOf, lastOn}
-use Rattle.marking.proofs.Marking.{any-marked, with-marked}
+use Rattle.marking.specs.Marks.{four, Marked, AllMarked, withWord, lastOn}
+use Rattle.marking.proofs.Marking.{with-marked}
 use Rattle.firsts.specs.declared.Firsts.{Firsts}
 use Rattle.outcomes.specs.declared.Outcome.{Outcome}
 use Rattle.firsts.specs.Ticks.{firstsOf, Early, AllEarly, BusyPost, OpenedPost, FreePost, freeOn}

@@ -1,5 +1,5 @@
 -- The ticks to visit: where a bracket stands, or an open reply covers an edge. At the others nothing is to be done but to retire.
-use Prim.Native.Nat.{ℕ, suc, _+_, _-_, _≤_, _<_}
+use Prim.Native.Nat.{ℕ, _+_, _-_, _≤_, _<_}
 use native.Mathlib.Omega.{arith}
 use mathlib.Core.Path.{_≡_, refl, sym, ap, _∙_, subst}
 use mathlib.Core.Logic.{_⊎_, inl, inr}
@@ -18,7 +18,7 @@ use Rattle.rules.specs.Samples.{Trace}
 use Rattle.rules.specs.Edges.{edgeAt}
 use Rattle.rules.specs.Replies.{covers}
 use Rattle.rules.specs.Machine.{bracketAt}
-use Rattle.rules.proofs.Truth.{impossible, same-or, and-left, and-right, or-left, or-right}
+use Rattle.rules.proofs.Truth.{impossible, same-or, and-left, or-left, or-right}
 use Rattle.places.specs.Places.{any3, anyIn, placed}
 use Rattle.places.proofs.Placed.{any-placed}
 use Rattle.plane.specs.Words.{bit, Lowest, WithoutLowest}

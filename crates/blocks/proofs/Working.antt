@@ -1,15 +1,14 @@
 -- The machine at work on a block: visits of the ticks to visit, lowest first, and the replies that are over at the end. What was handed out so far is a
 -- beginning of what the whole block hands out, so there is room for it.
-use Prim.Native.Nat.{ℕ, zero, suc, _+_, _-_, _*_, _≤_, _<_}
+use Prim.Native.Nat.{ℕ, suc, _+_, _-_, _*_, _≤_, _<_}
 use native.Mathlib.Omega.{arith}
 use mathlib.Core.Path.{_≡_, refl, sym, ap, _∙_, subst}
-use mathlib.Core.Bool.{Bool, true, false, not, _&&_, _||_, cond}
+use mathlib.Core.Bool.{Bool, true, false, not, _||_, cond}
 use mathlib.Core.List.{List, [], _∷_, _++_, append-nil, append-assoc}
 use lib.Dec.{leb, ltb}
 use lib.ListN.{length, getD, length-append}
-use borrow.Author.Tests.{leb-true, leb-false, ltb-false, lt-ltb, le-ltb}
+use borrow.Author.Tests.{leb-true, leb-false, ltb-false, le-ltb}
 use Rattle.rules.specs.declared.Reply.{Reply}
-use Rattle.rules.specs.declared.Slot.{Slot}
 use Rattle.rules.specs.declared.Place.{Place}
 use Rattle.rules.specs.declared.Pulse.{Pulse}
 use Rattle.rules.specs.declared.Counts.{Counts}
@@ -20,8 +19,8 @@ use Rattle.rules.specs.Settings.{standard}
 use Rattle.rules.specs.Lists.{All, filter}
 use Rattle.rules.specs.Samples.{Trace}
 use Rattle.rules.specs.Edges.{stands, edgeAt}
-use Rattle.rules.specs.Replies.{f1, ended, covers, isPhantom}
-use Rattle.rules.specs.Machine.{State, retired, bracketAt, edgeStep}
+use Rattle.rules.specs.Replies.{f1, ended, isPhantom}
+use Rattle.rules.specs.Machine.{State, retired, bracketAt}
 use Rattle.rules.specs.Records.{records}
 use Rattle.rules.specs.Buffers.{over-at}
 use Rattle.rules.proofs.Truth.{impossible}
@@ -34,27 +33,27 @@ use Rattle.replies.specs.Sums.{wrapped}
 use Rattle.handing.specs.Post.{dueSlot, HandedPost, InOrder, Queue}
 use Rattle.handing.proofs.Handing.{all-open}
 use Rattle.places.specs.Places.{test, idle, stepOn, placeAt, placed, machineOf}
-use Rattle.places.specs.Post.{Small, Fits, EdgePost}
+use Rattle.places.specs.Post.{EdgePost}
 use Rattle.places.proofs.Steps.{edge-post}
-use Rattle.plane.specs.Words.{bit, Lowest, WithoutLowest}
+use Rattle.plane.specs.Words.{bit, Lowest}
 use Rattle.plane.proofs.BitLaws.{zero-bit}
 use Rattle.marking.specs.declared.Words.{Words}
 use Rattle.marking.specs.Marks.{four, AllMarked, withoutWord, withoutPlace, lastOn}
 use Rattle.span.specs.declared.Span.{Span}
 use Rattle.front.specs.Post.{valueOf}
-use Rattle.span.specs.Spans.{TopPost, AbovePost, pulseIn, hasBracket, bracketIn}
+use Rattle.span.specs.Spans.{TopPost, pulseIn, bracketIn}
 use Rattle.span.proofs.Spans.{span-pulse, span-bracket}
 use Rattle.firsts.specs.declared.Firsts.{Firsts}
 use Rattle.outcomes.specs.declared.Outcome.{Outcome}
 use Rattle.firsts.specs.Ticks.{firstsOf, AllEarly}
 use Rattle.outcomes.specs.Outcomes.{outcomeBy, clearIn, OutcomePost, removedBy, countedBy, phantomMore}
 use Rattle.outcomes.proofs.Outcomes.{removes-main}
-use Rattle.blocks.specs.Steps.{stateAt, Shows, wantedIn, Wanted, noneDue}
-use Rattle.blocks.specs.Leaving.{removed, lessPhantom}
+use Rattle.blocks.specs.Steps.{stateAt, Shows, Wanted, noneDue}
+use Rattle.blocks.specs.Leaving.{lessPhantom}
 use Rattle.processor.specs.Arrays.{machineIn}
 use Rattle.blocks.proofs.Leaving.{without-there, last-there, marked-left, over-first}
-use Rattle.blocks.proofs.Stages.{Sound, Held, sound-at, fits, tick-there, due-at, onward, held-over, held-less, held-step, retired-open}
-use Rattle.blocks.proofs.Visiting.{Todo, todo-start, todo-first, todo-left, todo-plain, todo-bracket, unwanted}
+use Rattle.blocks.proofs.Stages.{Held, sound-at, fits, tick-there, due-at, onward, held-over, held-less, held-step, retired-open}
+use Rattle.blocks.proofs.Visiting.{Todo, todo-start, todo-first, todo-left, unwanted}
 use Rattle.blocks.proofs.Taking.{Ready, Visited, all-early}
 
 -- ---- records behind each other

@@ -1,13 +1,8 @@
 -- A reply leaves its place: the places, the open replies and the counts without it.
 use Prim.Native.Nat.{ℕ, zero, suc, _+_}
-use mathlib.Core.List.{List, [], _∷_, _++_}
+use mathlib.Core.List.{List, [], _∷_}
 use Rattle.rules.specs.declared.Reply.{Reply}
-use Rattle.rules.specs.declared.Place.{Place}
-use Rattle.rules.specs.declared.Places.{Places}
-use Rattle.rules.specs.declared.Counts.{Counts}
-use Rattle.rules.specs.declared.Machine.{Machine}
 use Rattle.rules.specs.Machine.{State}
-use Rattle.marking.specs.Marks.{four}
 
 -- the list without its k-th
 abbrev pub removed : ℕ → List Reply → List Reply

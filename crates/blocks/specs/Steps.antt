@@ -1,29 +1,25 @@
 -- What the functions of a piece answer, for the trace that their words and values belong to.
-use Prim.Native.Nat.{ℕ, suc, _+_, _-_, _*_, _≤_, _<_}
+use Prim.Native.Nat.{ℕ, _+_, _-_, _*_, _≤_, _<_}
 use mathlib.Core.Bool.{Bool, true, not, _&&_, _||_, cond}
 use mathlib.Core.List.{List, _++_}
 use mathlib.Core.Path.{_≡_}
 use lib.Dec.{eqb, leb, ltb}
-use lib.ListN.{length, getD}
-use Rattle.rules.specs.declared.Reply.{Reply}
-use Rattle.rules.specs.declared.Machine.{Machine}
-use Rattle.rules.specs.declared.Bracket.the-variants.{Without}
+use lib.ListN.{length}
 use Rattle.rules.specs.Settings.{standard}
-use Rattle.rules.specs.Lists.{All, filter}
+use Rattle.rules.specs.Lists.{All}
 use Rattle.rules.specs.Samples.{Trace, _⧺_, P, pieceLimit, sweepLimit}
 use Rattle.rules.specs.Edges.{stands, edgeAt}
-use Rattle.rules.specs.Replies.{f1, ended, covers}
-use Rattle.rules.specs.Machine.{State, bracketAt, after}
+use Rattle.rules.specs.Replies.{ended}
+use Rattle.rules.specs.Machine.{State, after}
 use Rattle.rules.specs.Records.{records}
 use Rattle.rules.specs.Calls.{fresh}
-use Rattle.rules.specs.declared.Counts.{Counts}
 use Rattle.places.specs.Places.{test, machineOf}
 use Rattle.rules.specs.declared.Place.{Place}
 use Rattle.rules.specs.declared.Pulse.{Pulse}
 use Rattle.marking.specs.declared.Words.{Words}
 use Rattle.marking.specs.Marks.{anyAt}
 use Rattle.rules.specs.Buffers.{over-at}
-use Rattle.plane.specs.Words.{bit, WithoutLowest}
+use Rattle.plane.specs.Words.{bit}
 use Rattle.packing.specs.declared.Planes.{Planes}
 use Rattle.flags.specs.Flags.{noFlags}
 use Rattle.front.specs.declared.words.Front.{Front}

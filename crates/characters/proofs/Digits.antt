@@ -8,7 +8,7 @@ use lib.Dec.{leb}
 use lib.ListN.{length, getD, take}
 use borrow.Author.Tests.{leb-true, lt-ltb, le-ltb}
 use Rattle.rules.proofs.Truth.{and-left, and-right}
-use Rattle.characters.specs.Characters.{digit, isDigit, areDigits, Digits}
+use Rattle.characters.specs.Characters.{digit, isDigit, areDigits}
 
 abbrev low : ℕ → Bool
 low c = leb 48 c && leb c 57

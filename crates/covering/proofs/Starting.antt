@@ -1,5 +1,5 @@
 -- The words of ticks of a place, and of the four.
-use Prim.Native.Nat.{ℕ, _+_, _<_}
+use Prim.Native.Nat.{ℕ}
 use mathlib.Core.Path.{_≡_, refl, sym, ap, _∙_}
 use mathlib.Core.Bool.{Bool}
 use mathlib.Core.List.{List}
@@ -9,10 +9,10 @@ use Rattle.rules.specs.declared.Slot.the-variants.{Idle, Open}
 use Rattle.rules.specs.declared.Place.{Place}
 use Rattle.rules.specs.Replies.{f1, covers, isPhantom}
 use Rattle.plane.proofs.BitLaws.{zero-bit}
-use Rattle.places.specs.Places.{test, testSlot, idle}
+use Rattle.places.specs.Places.{testSlot, idle}
 use Rattle.masks.specs.Masks.{coversFrom, phantomFrom, CoverMask, PhantomMask}
 use Rattle.marking.specs.declared.Words.{Words}
-use Rattle.marking.specs.Marks.{Marked, AllMarked}
+use Rattle.marking.specs.Marks.{AllMarked}
 use Rattle.covering.specs.Starts.{Tells, AllTell}
 
 covers-by : (u : ℕ) (r : Reply) → coversFrom (f1 r) u ≡ covers u r

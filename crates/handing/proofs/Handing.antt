@@ -1,5 +1,5 @@
 -- Handing out: a place's reply is written once it is no longer open. The replies stand in order of F1, so where the first is open still, all are.
-use Prim.Native.Nat.{ℕ, _+_, _*_, _≤_, _<_}
+use Prim.Native.Nat.{ℕ, _+_, _≤_, _<_}
 use native.Mathlib.Omega.{arith}
 use mathlib.Core.Path.{_≡_, refl, sym, ap, _∙_}
 use mathlib.Core.Bool.{true, false}
@@ -10,9 +10,9 @@ use Rattle.rules.specs.declared.Slot.{Slot}
 use Rattle.rules.specs.declared.Slot.the-variants.{Idle, Open}
 use Rattle.rules.specs.Lists.{All}
 use Rattle.rules.specs.Replies.{f1, ended}
-use Rattle.rules.specs.Machine.{State, retired}
+use Rattle.rules.specs.Machine.{State}
 use Rattle.rules.specs.Records.{recordOf, records, replies}
-use Rattle.rules.proofs.ListLaws.{all-map, filter-none, reject-none}
+use Rattle.rules.proofs.ListLaws.{all-map}
 use Rattle.rules.proofs.Order.{Rising, rising-all, Ordered, ended-earlier}
 use Rattle.places.specs.Places.{test, placed}
 use Rattle.rules.specs.Buffers.{over-at}

@@ -11,7 +11,6 @@ use Rattle.processor.specs.State.{Sweep, none, idleProcessor, processorOf, Made
 use Rattle.lines.specs.declared.scan.Scan.{Scan}
 use Rattle.lines.specs.declared.scan.Scan.the-variants.{Rest, Stopped, Full as NoRoom}
 use Rattle.lines.specs.declared.scan.Scanned.{Scanned}
-use Rattle.answers.specs.Outcomes.{printed}
 use Rattle.lines.specs.Survey.{linesIn, surveyed, survey}
 use Rattle.lines.specs.Post.{afterwards, Scans}
 use Rattle.lines.specs.Whole.{Turn, turn, Then, Chain, allRead, allPrinted, lastScan, lastProcessor, lastHeld, AnyCutting}

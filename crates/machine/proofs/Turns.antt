@@ -4,7 +4,7 @@ use native.Mathlib.Omega.{arith}
 use mathlib.Core.Path.{_≡_, refl, sym, ap, _∙_, subst}
 use mathlib.Core.Bool.{Bool, true, false, cond}
 use mathlib.Core.List.{List, [], _∷_}
-use lib.Dec.{eqb, ltb}
+use lib.Dec.{eqb}
 use lib.ListN.{getD}
 use borrow.Author.Tests.{eqb-true}
 use Rattle.rules.specs.declared.Reply.{Reply}
@@ -16,7 +16,7 @@ use Rattle.places.specs.Places.{test, testSlot, always, idle}
 use Rattle.plane.specs.Words.{bit}
 use Rattle.plane.proofs.BitLaws.{zero-bit}
 use Rattle.marking.specs.declared.Words.{Words}
-use Rattle.marking.specs.Marks.{withoutWord, withoutPlace, behindOf, lastOf, lastIn}
+use Rattle.marking.specs.Marks.{withoutWord, withoutPlace, lastOf, lastIn}
 
 abbrev one : Bool → ℕ
 one b = cond b 1 0

@@ -1,21 +1,21 @@
 -- Words of ticks: what is read from them, and that they stay those of the places.
 use Prim.Native.Nat.{ℕ, zero, suc, _+_, _*_, _/_, _%_, _^_, _≤_, _<_}
 use native.Mathlib.Omega.{arith}
-use mathlib.Core.Path.{_≡_, refl, sym, ap, ap₂, _∙_, subst}
+use mathlib.Core.Path.{_≡_, refl, sym, ap, ap₂, _∙_}
 use mathlib.Core.Bool.{Bool, true, false, _&&_, _||_, cond}
 use mathlib.Core.List.{List, [], _∷_}
 use lib.Bits.{bitAnd, bitOr}
-use lib.Dec.{eqb, ltb}
-use lib.ListN.{length, getD, set}
+use lib.Dec.{eqb}
+use lib.ListN.{length, set}
 use borrow.Author.Tests.{lt-ltb, le-ltb}
 use Rattle.rules.specs.declared.Reply.{Reply}
 use Rattle.rules.specs.declared.Place.{Place}
 use Rattle.plane.specs.Words.{bit}
 use Rattle.plane.proofs.BitLaws.{bit-and, bit-or, zero-bit}
-use Rattle.places.specs.Places.{test, idle, any3, anyIn}
+use Rattle.places.specs.Places.{test, anyIn}
 use Rattle.places.proofs.PlaceLaws.{any-four}
 use Rattle.marking.specs.declared.Words.{Words}
-use Rattle.marking.specs.Marks.{behindOf, lastOf, four, Marked, withWord, withoutWord, withoutPlace, AnyWord, anyAt, twoAt, TwiceWord, twoOf, whichOf, lastIn, lastOn}
+use Rattle.marking.specs.Marks.{behindOf, four, Marked, withWord, withoutWord, withoutPlace, AnyWord, anyAt, twoAt, TwiceWord, whichOf, lastIn, lastOn}
 
 -- ---- the functions
 

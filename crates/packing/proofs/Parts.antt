@@ -10,7 +10,7 @@ use lib.Seq.{getD-set-same, getD-set-other}
 use Rattle.rules.specs.Samples.{A, P, N, M, odd}
 use Rattle.rules.proofs.Truth.{same-or}
 use Rattle.packing.specs.declared.Planes.{Planes}
-use Rattle.plane.specs.Words.{bit, Holds, HoldsPart}
+use Rattle.plane.specs.Words.{Holds, HoldsPart}
 use Rattle.packing.specs.Packing.{Packed, PackedPart}
 use Rattle.plane.proofs.Cases.{le-or-lt}
 use Rattle.plane.proofs.BitLaws.{bit-above}

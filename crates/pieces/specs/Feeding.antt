@@ -1,18 +1,14 @@
 -- What the functions of a piece answer, for the trace that their words and values belong to.
-use Prim.Native.Nat.{ℕ, _+_, _-_, _*_, _≤_, _<_}
-use mathlib.Core.Bool.{cond}
+use Prim.Native.Nat.{ℕ, _+_, _-_, _≤_, _<_}
 use mathlib.Core.List.{List}
 use mathlib.Core.Path.{_≡_}
-use lib.Dec.{ltb}
-use lib.ListN.{length, take}
-use Rattle.rules.specs.Settings.{standard}
+use lib.ListN.{length}
 use Rattle.rules.specs.Lists.{All}
-use Rattle.rules.specs.Samples.{Trace, _⧺_, sweepLimit}
-use Rattle.rules.specs.Calls.{fresh, silence, takeRoom, closeRoom}
+use Rattle.rules.specs.Samples.{Trace, sweepLimit}
+use Rattle.rules.specs.Calls.{silence, takeRoom, closeRoom}
 use Rattle.places.specs.Places.{machineOf}
 use Rattle.processor.specs.declared.Progress.{Progress}
 use Rattle.front.specs.Words.{frontOf, recentOf}
-use Rattle.front.specs.Post.{Reads}
 use Rattle.blocks.specs.Steps.{stateAt, Fed}
 use Rattle.processor.specs.Arrays.{machineAt}
 

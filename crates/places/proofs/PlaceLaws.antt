@@ -1,6 +1,6 @@
 -- What the code computes of a place and of the four is what the definitions of Places say: laws that the functions' proofs cite.
 use Prim.Native.Nat.{ℕ}
-use mathlib.Core.Path.{_≡_, refl, sym, ap, _∙_}
+use mathlib.Core.Path.{_≡_, refl, ap, _∙_}
 use mathlib.Core.Bool.{Bool, true, false, not, _&&_, _||_, cond}
 use lib.Dec.{leb, eqb}
 use Rattle.rules.specs.declared.Reply.{Reply}
@@ -12,8 +12,7 @@ use Rattle.rules.specs.declared.Places.{Places}
 use Rattle.rules.specs.Settings.{Settings}
 use Rattle.rules.specs.Samples.{bit}
 use Rattle.rules.specs.Replies.{f1, position, isPosition, covers, agrees, speaks, verdict, bitOf, takes, heardAt, hear}
-use Rattle.rules.proofs.Truth.{or-left, or-right}
-use Rattle.places.specs.Places.{test, testSlot, anyIn, positionSlot, positionIn, hearSlotAt, hearAt, hearSlot, hearIn, any3, dealt}
+use Rattle.places.specs.Places.{test, testSlot, positionSlot, positionIn, hearSlotAt, hearAt, hearSlot, hearIn, any3, dealt}
 
 -- ---- truth values
 

@@ -2,7 +2,6 @@
 use Prim.Native.Nat.{ℕ, zero, suc, _+_}
 use mathlib.Core.Bool.{Bool, true, false, not, _&&_, _||_, cond}
 use mathlib.Core.List.{List, [], _∷_}
-use lib.Dec.{eqb}
 use Rattle.rules.specs.declared.Reply.{Reply}
 use Rattle.rules.specs.declared.Slot.{Slot}
 use Rattle.rules.specs.declared.Slot.the-variants.{Idle, Open}
@@ -15,7 +14,7 @@ use Rattle.rules.specs.declared.Bracket.the-variants.{Without, With}
 use Rattle.rules.specs.declared.Fate.{Fate}
 use Rattle.rules.specs.declared.Fate.the-variants.{Sidelobe, Garbled, Lost, Opens}
 use Rattle.rules.specs.Settings.{Settings}
-use Rattle.rules.specs.Replies.{Verdict, f1, position, isInside, takes, heardAt, hear, speaks, covers, inside, military, isPhantom}
+use Rattle.rules.specs.Replies.{Verdict, f1, position, takes, heardAt, hear, speaks, covers, inside, military, isPhantom}
 use Rattle.rules.specs.Machine.{State, openedBy, fateBy, tally}
 
 -- ---- tests on a place, and on the four

@@ -8,7 +8,7 @@ use lib.Dec.{ltb}
 use lib.ListN.{length, getD, take, length-append}
 use borrow.Author.Tests.{lt-ltb, le-leb, lt-leb, eq-eqb, ltb-true, ltb-false}
 use Rattle.rules.specs.Lists.{All}
-use Rattle.reading.specs.Frames.{Reading, opening, samples, closing, refused, bytes, digits, wellFormed, flagsIn, valuesIn, frame, reading}
+use Rattle.reading.specs.Frames.{opening, samples, closing, refused, bytes, digits, wellFormed, flagsIn, valuesIn, frame, reading}
 use Rattle.characters.specs.Characters.{digit, areDigits}
 use Rattle.hexadecimal.specs.Digits.{glyph, hexadecimal, written}
 use Rattle.frames.specs.Writing.{openLine, pairs, samplesLine, closeLine}

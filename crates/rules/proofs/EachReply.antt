@@ -1,25 +1,23 @@
 -- What holds of every reply of a trace: its numbers are in range, its F1 is early enough for an F2, and where F2 is its reference F2 has M.
 -- Each is a property that a reply has when it opens and that settling keeps.
-use Prim.Native.Nat.{ℕ, zero, suc, _+_, _*_, _≤_, _<_}
+use Prim.Native.Nat.{ℕ, zero, suc, _+_, _≤_}
 use native.Mathlib.Omega.{arith}
-use mathlib.Core.Path.{_≡_, refl, sym, ap, _∙_, subst}
-use mathlib.Core.Bool.{Bool, true, false, not, _&&_, _||_, cond, and-false}
-use mathlib.Core.List.{List, [], _∷_, _++_}
+use mathlib.Core.Path.{_≡_, refl, sym, subst}
+use mathlib.Core.Bool.{Bool, true, false, not, _&&_, _||_, cond}
+use mathlib.Core.List.{List, [], _∷_}
 use lib.Dec.{leb, eqb}
 use lib.ListN.{length, getD}
 use Rattle.rules.specs.declared.Tick.{Tick}
 use Rattle.rules.specs.declared.Reply.{Reply}
 use Rattle.rules.specs.declared.Pulse.{Pulse}
-use Rattle.rules.specs.declared.Bracket.{Bracket}
 use Rattle.rules.specs.declared.Bracket.the-variants.{Without, With}
-use Rattle.rules.specs.declared.Fate.{Fate}
-use Rattle.rules.specs.declared.Fate.the-variants.{Sidelobe, Garbled, Lost, Opens}
+use Rattle.rules.specs.declared.Fate.the-variants.{Opens}
 use Rattle.rules.specs.Settings.{Settings, Allowed}
 use Rattle.rules.specs.Lists.{any, All}
 use Rattle.rules.specs.Samples.{Trace}
-use Rattle.rules.specs.Edges.{Edge, stands, edgeIn, edgeAt}
+use Rattle.rules.specs.Edges.{Edge, stands, edgeAt}
 use Rattle.rules.specs.Replies.{f1, position, takes, verdict, agrees, heardAt, covers, hear}
-use Rattle.rules.specs.Machine.{State, bracketOf, bracketAt, isBracket, fateBy, clear, fate, opened, openedBy, after, final}
+use Rattle.rules.specs.Machine.{bracketAt, fateBy, clear, fate, opened, openedBy, after, final}
 use Rattle.rules.specs.Records.{replies}
 use Rattle.rules.specs.Ranges.{Ranged, InRange}
 use Rattle.rules.proofs.Truth.{impossible}

@@ -1,20 +1,18 @@
 -- The edge that the rules give at a tick is the one that document 01's sentences give: actual, pseudo or extra, and no other.
 -- `byEnd` is the edge inside a run as a matter of its age, its tick, where the run ends, and whether by a lead.
-use Prim.Native.Nat.{ℕ, zero, suc, _+_, _-_, _*_, _/_, _%_, _≤_, _<_}
+use Prim.Native.Nat.{ℕ, zero, suc, _+_, _-_, _/_, _%_, _≤_, _<_}
 use native.Mathlib.Omega.{arith}
-use mathlib.Core.Path.{_≡_, refl, sym, ap, _∙_, subst}
-use mathlib.Core.Logic.{_⊎_, inl, inr, _↔_}
+use mathlib.Core.Path.{_≡_, refl, sym, ap, _∙_}
+use mathlib.Core.Logic.{_⊎_, inl, inr}
 use mathlib.Core.Bool.{Bool, true, false, not, _&&_, _||_, cond, and-false, or-true}
-use mathlib.Core.List.{List, [], _∷_}
+use mathlib.Core.List.{List}
 use lib.Dec.{leb, ltb, eqb}
-use lib.ListN.{length, drop}
-use borrow.Author.Tests.{leb-true, leb-false, ltb-true, ltb-false, eqb-true, eqb-false, lt-ltb, le-ltb, eq-eqb, ne-eqb, not-true, not-false}
+use borrow.Author.Tests.{leb-true, leb-false, ltb-true, ltb-false, eqb-true, eqb-false, lt-ltb, eq-eqb, ne-eqb, not-true}
 use Rattle.rules.specs.Settings.{Settings, Allowed}
-use Rattle.rules.specs.Samples.{P, N}
-use Rattle.rules.specs.Edges.{Kind, noEdge, actual, pseudo, extra, lead, falls, trailWithin, goesOn, noTrail, inRun, kind, since, ageAt, kindAt}
+use Rattle.rules.specs.Edges.{Kind, noEdge, actual, pseudo, extra, lead, falls, trailWithin, noTrail, inRun, kind, since, ageAt, kindAt}
 use Rattle.rules.specs.Sentences.{leadAt, highAfter, trailAt, Plain, Next, Run, Actual, Pseudo, Extra}
 use Rattle.rules.proofs.Truth.{impossible, and-left, and-right, or-left, or-right, or-second, same-or}
-use Rattle.rules.proofs.Runs.{since-add, since-suc, high-age, not-low, low-age, high-lead, age-lead, age-plain, trail-falls, Going, going-suc, going-add, goesOn-is, noTrail-is, ended, Ended, reach, Reach, Sloped, no-lead-and-trail}
+use Rattle.rules.proofs.Runs.{since-add, since-suc, not-low, low-age, high-lead, age-lead, age-plain, trail-falls, Going, going-add, goesOn-is, noTrail-is, ended, reach, Reach, Sloped, no-lead-and-trail}
 
 -- where a run of age a at t ends at e, by a lead if l
 abbrev pub isPseudo : Settings → ℕ → ℕ → ℕ → Bool → Bool

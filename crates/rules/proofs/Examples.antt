@@ -1,6 +1,6 @@
 -- Document 01's examples hold of the rules: each is computed.
 use mathlib.Core.Path.{refl}
-use Rattle.rules.specs.Examples.{Both·sides, table, short, ticks, edges, pulses, printed, edgesOf, totalsOf, recordsOf}
+use Rattle.rules.specs.Examples.{Both·sides, short, edges, pulses, printed, edgesOf, totalsOf, recordsOf}
 
 pub both-sides : Both·sides
 unfolding short edges pulses printed edgesOf totalsOf recordsOf

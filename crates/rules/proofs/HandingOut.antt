@@ -1,20 +1,20 @@
 -- How much is handed out: a take of n ticks at most 4 x ceil(n/206) replies, a close at most eight. So the buffers of refusal 7 suffice.
 -- What a take hands out has its F1 in a span of n ticks; what is left at a close has its F1 in a span of 217.
-use Prim.Native.Nat.{ℕ, zero, suc, _+_, _-_, _*_, _/_, _≤_, _<_}
+use Prim.Native.Nat.{ℕ, _+_, _-_, _*_, _/_, _≤_}
 use native.Mathlib.Omega.{arith}
-use mathlib.Core.Path.{_≡_, refl, sym, ap, _∙_, subst}
-use mathlib.Core.Bool.{Bool, true, false, _&&_, cond}
-use mathlib.Core.List.{List, [], _∷_, _++_}
-use lib.Dec.{leb, ltb}
-use lib.ListN.{length, length-append}
+use mathlib.Core.Path.{_≡_}
+use mathlib.Core.Bool.{true, false}
+use mathlib.Core.List.{List, [], _∷_}
+use lib.Dec.{leb}
+use lib.ListN.{length}
 use borrow.Author.Tests.{le-leb, leb-true, leb-false, lt-ltb}
 use Rattle.rules.specs.declared.Reply.{Reply}
 use Rattle.rules.specs.Settings.{Settings, Allowed}
-use Rattle.rules.specs.Lists.{filter, reject, count, All}
+use Rattle.rules.specs.Lists.{reject, count, All}
 use Rattle.rules.specs.Samples.{Trace, _⧺_}
 use Rattle.rules.specs.Edges.{edgeAt}
 use Rattle.rules.specs.Replies.{f1}
-use Rattle.rules.specs.Machine.{after, final}
+use Rattle.rules.specs.Machine.{final}
 use Rattle.rules.specs.Records.{replies}
 use Rattle.rules.specs.Calls.{due, fresh, rest}
 use Rattle.rules.specs.Sentences.{inSpan}

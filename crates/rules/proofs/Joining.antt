@@ -1,10 +1,10 @@
 -- Replies by pieces: what was handed out once T is taken, with what a take of P then hands out, is what is handed out once T and P are taken.
 -- With what is left at a close it is every reply of the trace.
-use Prim.Native.Nat.{ℕ, zero, suc, _+_, _-_, _*_, _≤_}
+use Prim.Native.Nat.{ℕ, _+_, _-_, _*_, _≤_}
 use native.Mathlib.Omega.{arith}
-use mathlib.Core.Path.{_≡_, refl, sym, ap, _∙_, subst}
+use mathlib.Core.Path.{_≡_, refl, sym, ap, _∙_}
 use mathlib.Core.Bool.{Bool, true, false, cond}
-use mathlib.Core.List.{List, [], _∷_, _++_, append-assoc, append-nil, map}
+use mathlib.Core.List.{List, [], _∷_, _++_, append-assoc, map}
 use lib.Dec.{leb}
 use lib.ListN.{length, length-append}
 use borrow.Author.Tests.{le-leb, lt-leb, leb-true, leb-false}
@@ -18,7 +18,7 @@ use Rattle.rules.specs.Machine.{after, final}
 use Rattle.rules.specs.Records.{bytes, recordOf, records, replies}
 use Rattle.rules.specs.Calls.{due, handed, fresh, rest}
 use Rattle.rules.proofs.Truth.{impossible}
-use Rattle.rules.proofs.Order.{Rising, Earlier, split-rising, Ordered}
+use Rattle.rules.proofs.Order.{Rising, Earlier, split-rising}
 use Rattle.rules.proofs.Settled.{settled, due-after, due-none, after-append, edge-timed}
 use Rattle.rules.proofs.Printed.{final-ordered}
 

@@ -11,7 +11,7 @@ use lib.Seq.{take-append-le, take-take}
 use borrow.Author.Tests.{ltb-true, ltb-false}
 use Rattle.rules.specs.Settings.{Settings, Allowed}
 use Rattle.rules.specs.Samples.{Trace, _⧺_, M}
-use Rattle.rules.specs.Edges.{Kind, noEdge, lead, falls, age, trailWithin, inRun, kind, kindsFrom, kinds, edgeIn, edgeAt, since, ageAt, kindAt}
+use Rattle.rules.specs.Edges.{noEdge, lead, falls, age, trailWithin, inRun, kind, kindsFrom, kinds, edgeAt, since, ageAt, kindAt}
 
 -- ---- how far a rule looks
 

@@ -4,10 +4,10 @@ use Prim.Native.Nat.{ℕ, zero, suc, _+_, _≤_, _<_}
 use native.Mathlib.Omega.{arith}
 use mathlib.Core.Path.{_≡_, refl, sym, ap, _∙_, subst}
 use mathlib.Core.Bool.{Bool, true, false, _||_, cond}
-use mathlib.Core.List.{List, [], _∷_, _++_, append-nil, append-assoc}
-use lib.Dec.{leb, ltb}
+use mathlib.Core.List.{List, [], _∷_, _++_, append-assoc}
+use lib.Dec.{leb}
 use lib.ListN.{length, length-append}
-use borrow.Author.Tests.{leb-false, ltb-true, ltb-false, le-ltb}
+use borrow.Author.Tests.{leb-false, ltb-false, le-ltb}
 use Rattle.rules.specs.declared.Reply.{Reply}
 use Rattle.rules.specs.declared.Pulse.{Pulse}
 use Rattle.rules.specs.declared.Bracket.{Bracket}
@@ -18,7 +18,7 @@ use Rattle.rules.specs.Settings.{Settings}
 use Rattle.rules.specs.Lists.{any, filter, reject, All}
 use Rattle.rules.specs.Edges.{Edge, stands}
 use Rattle.rules.specs.Replies.{f1, position, takes, verdict, agrees, heardAt, ended, isPhantom, speaks, hear}
-use Rattle.rules.specs.Machine.{State, start, retired, bracketAt, fateBy, clear, fate, opened, openedBy, liveAfter, bracket, dealFrom, deal, edgeStep, step, after}
+use Rattle.rules.specs.Machine.{State, retired, bracketAt, fateBy, clear, fate, opened, openedBy, liveAfter, bracket, dealFrom, deal, edgeStep, step, after}
 use Rattle.rules.specs.Records.{replies}
 use Rattle.rules.proofs.ListLaws.{filter-none, reject-none, reject-short}
 use Rattle.rules.proofs.Outcomes.{deal-length}

@@ -1,8 +1,8 @@
 -- Every bracket ends in exactly one counted outcome: found = replies + sidelobe + garbled + lost + phantoms = the edges at which a bracket stands.
 -- Each part of a step keeps the two sums of `Balanced`, and only a bracket raises found, by one.
-use Prim.Native.Nat.{ℕ, zero, suc, _+_, _≤_}
+use Prim.Native.Nat.{ℕ, zero, suc, _+_}
 use native.Mathlib.Omega.{arith}
-use mathlib.Core.Path.{_≡_, refl, sym, ap, _∙_}
+use mathlib.Core.Path.{_≡_, refl, ap, _∙_}
 use mathlib.Core.Bool.{Bool, true, false, _&&_, cond}
 use mathlib.Core.List.{List, [], _∷_, _++_}
 use lib.ListN.{length, length-append}
@@ -13,11 +13,11 @@ use Rattle.rules.specs.declared.Bracket.the-variants.{Without, With}
 use Rattle.rules.specs.declared.Fate.{Fate}
 use Rattle.rules.specs.declared.Fate.the-variants.{Sidelobe, Garbled, Lost, Opens}
 use Rattle.rules.specs.Settings.{Settings}
-use Rattle.rules.specs.Lists.{any, filter, reject, count}
+use Rattle.rules.specs.Lists.{filter, reject, count}
 use Rattle.rules.specs.Samples.{Trace}
 use Rattle.rules.specs.Edges.{Edge, stands, edgeAt}
 use Rattle.rules.specs.Replies.{ended, isPhantom}
-use Rattle.rules.specs.Machine.{State, start, retired, isBracket, bracketAt, bracketsBelow, fate, opened, liveAfter, tally, bracket, dealFrom, deal, edgeStep, step, after, final}
+use Rattle.rules.specs.Machine.{State, retired, isBracket, bracketAt, bracketsBelow, fate, opened, liveAfter, tally, bracket, dealFrom, deal, edgeStep, step, after, final}
 use Rattle.rules.specs.declared.Totals.{Totals}
 use Rattle.rules.specs.Records.{replies, totals}
 use Rattle.rules.proofs.ListLaws.{count-split}

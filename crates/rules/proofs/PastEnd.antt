@@ -2,18 +2,17 @@
 -- A close is then a take of 385 zeros or more: it hands out what is left.
 use Prim.Native.Nat.{ℕ, zero, suc, _+_, _-_, _≤_, _<_}
 use native.Mathlib.Omega.{arith}
-use mathlib.Core.Path.{_≡_, refl, sym, ap, ap₂, _∙_, subst}
-use mathlib.Core.Bool.{Bool, true, false, not, _&&_, _||_, cond}
+use mathlib.Core.Path.{_≡_, refl, sym, ap, _∙_, subst}
+use mathlib.Core.Bool.{Bool, true, false}
 use mathlib.Core.List.{List, [], _∷_, _++_}
-use lib.Dec.{leb, ltb}
 use lib.ListN.{length, getD, drop, replicate, length-append, length-replicate}
 use lib.Seq.{getD-drop}
 use borrow.Author.Tests.{le-leb}
 use Rattle.rules.specs.declared.Reply.{Reply}
 use Rattle.rules.specs.Settings.{Settings, Allowed}
-use Rattle.rules.specs.Lists.{filter, reject, All}
-use Rattle.rules.specs.Samples.{Trace, _⧺_, A, P, N, M}
-use Rattle.rules.specs.Edges.{Edge, stands, noEdge, lead, falls, age, trailWithin, goesOn, noTrail, inRun, kind, kinds, since, ageAt, kindAt, edgeAt}
+use Rattle.rules.specs.Lists.{filter, reject}
+use Rattle.rules.specs.Samples.{Trace, _⧺_, A, N, M}
+use Rattle.rules.specs.Edges.{stands, lead, falls, age, trailWithin, goesOn, noTrail, inRun, kind, since, ageAt, kindAt, edgeAt}
 use Rattle.rules.specs.Replies.{f1}
 use Rattle.rules.specs.Machine.{State, retired, after, final}
 use Rattle.rules.specs.Records.{replies}
@@ -21,7 +20,7 @@ use Rattle.rules.specs.Calls.{due, fresh, rest, silence}
 use Rattle.rules.proofs.Truth.{impossible}
 use Rattle.rules.proofs.ListLaws.{filter-all, all-map}
 use Rattle.rules.proofs.Locality.{kinds-at}
-use Rattle.rules.proofs.Order.{Rising, rising-all, Ordered, retired-replies, ordered}
+use Rattle.rules.proofs.Order.{Rising, rising-all, retired-replies, ordered}
 use Rattle.rules.proofs.Apart.{edge-end}
 use Rattle.rules.proofs.Settled.{edge-timed, after-same}
 use Rattle.rules.proofs.Skipping.{skip}

@@ -1,13 +1,13 @@
 -- The positions, the phantom test and the other tests by tick say what document 01's sentences say.
 -- Quotient and remainder by 12 give the one k for which q+12k-1 to q+12k+1 holds the tick.
-use Prim.Native.Nat.{ℕ, _+_, _-_, _*_, _/_, _%_, _≤_, _<_}
+use Prim.Native.Nat.{ℕ, _+_, _-_, _/_, _%_, _≤_}
 use native.Mathlib.Omega.{arith}
 use mathlib.Core.Path.{_≡_, refl, sym, ap, _∙_}
-use mathlib.Core.Bool.{Bool, true, false, _&&_, _||_, cond}
-use lib.Dec.{leb, ltb, eqb}
-use borrow.Author.Tests.{le-leb, leb-true, ltb-true, lt-ltb, eqb-true}
+use mathlib.Core.Bool.{Bool, true, false, _&&_, cond}
+use lib.Dec.{leb}
+use borrow.Author.Tests.{le-leb, leb-true}
 use Rattle.rules.specs.declared.Reply.{Reply}
-use Rattle.rules.specs.Replies.{f1, position, isPosition, isInside, covers, inside, ended, military, isPhantom}
+use Rattle.rules.specs.Replies.{f1, position, isPosition, covers, inside, isPhantom}
 use Rattle.rules.specs.Sentences.{Covered, Within}
 use Rattle.rules.proofs.Truth.{impossible, and-left, and-right}
 

@@ -1,23 +1,20 @@
 -- Numbers that are printed in two bytes fit them: each total of a sweep, and each range.
 -- At most one bracket stands at a tick, and each other total is a part of found.
-use Prim.Native.Nat.{ℕ, zero, suc, _+_, _*_, _≤_, _<_}
+use Prim.Native.Nat.{ℕ, zero, suc, _+_, _≤_, _<_}
 use native.Mathlib.Omega.{arith}
-use mathlib.Core.Path.{_≡_, refl}
 use mathlib.Core.Bool.{Bool, true, false, _&&_, cond}
-use mathlib.Core.List.{List, [], _∷_}
 use lib.ListN.{length}
-use Rattle.rules.specs.declared.Reply.{Reply}
 use Rattle.rules.specs.Settings.{Settings}
 use Rattle.rules.specs.Lists.{All}
 use Rattle.rules.specs.Samples.{Trace, sweepLimit}
 use Rattle.rules.specs.Edges.{Edge, stands, edgeAt}
 use Rattle.rules.specs.Replies.{f1}
-use Rattle.rules.specs.Machine.{isBracket, bracketAt, bracketsBelow, after, final}
+use Rattle.rules.specs.Machine.{isBracket, bracketAt, bracketsBelow, final}
 use Rattle.rules.specs.declared.Totals.{Totals}
 use Rattle.rules.specs.Records.{rangeOf, replies, totals}
 use Rattle.rules.proofs.ListLaws.{all-map}
-use Rattle.rules.proofs.Outcomes.{Accounted, accounted}
-use Rattle.rules.proofs.Order.{Rising, rising-all, Ordered, ordered}
+use Rattle.rules.proofs.Outcomes.{accounted}
+use Rattle.rules.proofs.Order.{rising-all, Ordered, ordered}
 use Rattle.rules.proofs.Settled.{edge-timed}
 
 -- a total as it is printed

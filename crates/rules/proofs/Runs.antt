@@ -1,18 +1,18 @@
 -- Runs, from a lead s to the next trail or lead e: the age and the bounded look-ahead of the rules say what document 01's sentences say.
 -- Between s and e the age counts from s, and each look-ahead is a comparison with e; so an edge inside a run is a matter of s and e alone.
-use Prim.Native.Nat.{ℕ, zero, suc, _+_, _-_, _*_, _/_, _%_, _≤_, _<_}
+use Prim.Native.Nat.{ℕ, zero, suc, _+_, _-_, _/_, _%_, _≤_, _<_}
 use native.Mathlib.Omega.{arith}
-use mathlib.Core.Path.{_≡_, refl, sym, ap, ap₂, _∙_, subst}
-use mathlib.Core.Logic.{_⊎_, inl, inr, _↔_}
+use mathlib.Core.Path.{_≡_, refl, sym, ap, _∙_}
+use mathlib.Core.Logic.{_⊎_, inl, inr}
 use mathlib.Core.Bool.{Bool, true, false, not, _&&_, _||_, cond, and-false, or-true}
 use mathlib.Core.List.{List, [], _∷_}
-use lib.Dec.{leb, ltb, eqb, eqb·suc-zero}
+use lib.Dec.{ltb, eqb, eqb·suc-zero}
 use lib.ListN.{length, getD, drop, List·getD-eq-default}
 use lib.Seq.{getD-drop, drop-drop}
-use borrow.Author.Tests.{ltb-true, ltb-false, eqb-true, eqb-false, lt-ltb, le-ltb, eq-eqb, ne-eqb, not-true, not-false}
+use borrow.Author.Tests.{eqb-true, eqb-false, lt-ltb, le-ltb, not-true, not-false}
 use Rattle.rules.specs.Samples.{A, P, N, odd}
-use Rattle.rules.specs.Edges.{Kind, noEdge, actual, pseudo, extra, lead, falls, age, trailWithin, goesOn, noTrail, inRun, kind, since, ageAt, kindAt}
-use Rattle.rules.specs.Sentences.{leadAt, highAfter, trailAt, Plain, Next, Run}
+use Rattle.rules.specs.Edges.{lead, falls, age, goesOn, noTrail, since, ageAt}
+use Rattle.rules.specs.Sentences.{leadAt, highAfter, trailAt, Plain, Next}
 use Rattle.rules.proofs.Truth.{impossible, and-left, and-right}
 
 -- ---- the window of the next tick

@@ -7,7 +7,7 @@ use native.Mathlib.Nat.{zero-add, suc-add}
 use mathlib.Core.Path.{_≡_, refl, sym, ap, _∙_, subst}
 use mathlib.Core.Bool.{Bool, true, false, cond}
 use mathlib.Core.List.{List, [], _∷_, _++_, append-nil}
-use lib.Dec.{leb, ltb}
+use lib.Dec.{leb}
 use lib.ListN.{length, length-append}
 use borrow.Author.Tests.{le-leb, lt-leb, leb-true, leb-false, ltb-true, ltb-false}
 use Rattle.rules.specs.declared.Reply.{Reply}
@@ -20,7 +20,7 @@ use Rattle.rules.specs.Settings.{Settings, Allowed}
 use Rattle.rules.specs.Lists.{any, filter, reject, All}
 use Rattle.rules.specs.Samples.{Trace, _⧺_}
 use Rattle.rules.specs.Edges.{Edge, stands, edgeAt}
-use Rattle.rules.specs.Replies.{f1, ended, isPhantom, speaks, hear}
+use Rattle.rules.specs.Replies.{f1, ended, isPhantom, speaks}
 use Rattle.rules.specs.Machine.{State, retired, bracketAt, fate, opened, liveAfter, bracket, dealFrom, deal, edgeStep, step, after, final}
 use Rattle.rules.specs.Records.{replies}
 use Rattle.rules.specs.Calls.{due}

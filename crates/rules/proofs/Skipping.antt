@@ -8,7 +8,6 @@ use mathlib.Core.List.{List, [], _∷_, _++_, append-nil, append-assoc}
 use lib.Dec.{leb, eqb}
 use lib.ListN.{length, length-append}
 use borrow.Author.Tests.{leb-true, leb-false, ltb-true, lt-ltb, le-ltb}
-use Rattle.rules.specs.declared.Tick.{Tick}
 use Rattle.rules.specs.declared.Reply.{Reply}
 use Rattle.rules.specs.declared.Pulse.{Pulse}
 use Rattle.rules.specs.declared.Bracket.{Bracket}
@@ -22,8 +21,8 @@ use Rattle.rules.specs.Machine.{State, retired, bracketAt, bracket, deal
 use Rattle.rules.specs.Records.{replies}
 use Rattle.rules.proofs.Truth.{impossible}
 use Rattle.rules.proofs.ListLaws.{filter-none, reject-none, all-map, all-reject}
-use Rattle.rules.proofs.Order.{hear-f1, Rising, rising-behind, none-later, ended-earlier, Timed, ordered}
-use Rattle.rules.proofs.Settled.{Young, aged, step-done, edge-done}
+use Rattle.rules.proofs.Order.{Rising, rising-behind, none-later, ended-earlier, Timed, ordered}
+use Rattle.rules.proofs.Settled.{Young, aged, step-done}
 
 -- ---- retiring twice
 

@@ -1,20 +1,18 @@
 -- Among the replies opened and not removed any 206 consecutive ticks hold at most four F1s: when a fifth opens, an earlier one is over.
 -- So n ticks hand out at most 4 x ceil(n/206) replies, and a close at most eight.
-use Prim.Native.Nat.{ℕ, zero, suc, _+_, _-_, _*_, _/_, _≤_, _<_}
+use Prim.Native.Nat.{ℕ, zero, suc, _+_, _-_, _*_, _≤_, _<_}
 use native.Mathlib.Omega.{arith}
-use mathlib.Core.Path.{_≡_, refl, sym, ap, _∙_, subst}
-use mathlib.Core.Bool.{Bool, true, false, not, _&&_, _||_, cond, and-false}
-use mathlib.Core.List.{List, [], _∷_, _++_, append-assoc}
+use mathlib.Core.Path.{_≡_, refl, sym, ap, subst}
+use mathlib.Core.Bool.{Bool, true, false, _&&_, _||_, cond, and-false}
+use mathlib.Core.List.{List, [], _∷_, _++_}
 use lib.Dec.{leb, ltb}
 use lib.ListN.{length, length-append}
-use borrow.Author.Tests.{le-leb, lt-leb, leb-true, leb-false, lt-ltb, le-ltb, ltb-true, ltb-false}
+use borrow.Author.Tests.{le-leb, lt-leb, leb-true, leb-false, lt-ltb, ltb-true, ltb-false}
 use Rattle.rules.specs.declared.Tick.{Tick}
 use Rattle.rules.specs.declared.Reply.{Reply}
 use Rattle.rules.specs.declared.Pulse.{Pulse}
 use Rattle.rules.specs.declared.Bracket.{Bracket}
 use Rattle.rules.specs.declared.Bracket.the-variants.{Without, With}
-use Rattle.rules.specs.declared.Fate.{Fate}
-use Rattle.rules.specs.declared.Fate.the-variants.{Sidelobe, Garbled, Lost, Opens}
 use Rattle.rules.specs.Settings.{Settings}
 use Rattle.rules.specs.Lists.{any, filter, reject, count, All}
 use Rattle.rules.specs.Edges.{Edge, stands}
@@ -25,7 +23,7 @@ use Rattle.rules.specs.Sentences.{inSpan}
 use Rattle.rules.proofs.ListLaws.{count-append, count-reject, count-most, count-none, count-cons, count-or, all-map}
 use Rattle.rules.proofs.Truth.{and-left, and-right}
 use Rattle.rules.proofs.Order.{hear-f1, opened-f1, Timed, Ordered, ordered, retired-replies}
-use Rattle.rules.proofs.Settled.{Old, Aged, aged-retired, old-done}
+use Rattle.rules.proofs.Settled.{Old, aged-retired, old-done}
 
 -- at most four F1s in any 206 ticks
 pub record Spaced (l : List Reply) : Type 0 where

@@ -5,7 +5,6 @@ use mathlib.Core.Bool.{Bool, true, false, not, _&&_, _||_, cond}
 use mathlib.Core.List.{List, [], _∷_}
 use lib.Dec.{ltb, eqb}
 use lib.ListN.{getD, drop}
-use Rattle.rules.specs.declared.Tick.{Tick}
 use Rattle.rules.specs.declared.Pulse.{Pulse}
 use Rattle.rules.specs.Settings.{Settings}
 use Rattle.rules.specs.Samples.{Trace, A, P, N, M}

@@ -1,10 +1,9 @@
 -- A reply, and what an edge makes of it. `plus` is how sums are formed: `_+_` by the rules, and in the code a sum that cannot overflow.
-use Prim.Native.Nat.{ℕ, _+_, _-_, _*_, _/_, _%_, _^_}
+use Prim.Native.Nat.{ℕ, _+_, _-_, _/_, _%_, _^_}
 use mathlib.Core.Bool.{Bool, true, false, not, _&&_, _||_, cond}
 use lib.Dec.{leb, ltb, eqb}
 use lib.IntN.{pos, negsuc}
 use lib.Ieee.{Float, fin, binary64, add, sub, mul, le, ofInt}
-use Rattle.rules.specs.declared.Tick.{Tick}
 use Rattle.rules.specs.declared.Estimate.{Estimate}
 use Rattle.rules.specs.declared.Estimate.the-variants.{Lone, Average}
 use Rattle.rules.specs.declared.Reference.{Reference}

@@ -17,7 +17,7 @@ use Rattle.rules.specs.declared.Pulse.{Pulse}
 use Rattle.rules.specs.declared.Slot.{Slot}
 use Rattle.rules.specs.declared.Slot.the-variants.{Idle, Open}
 use Rattle.rules.specs.declared.Place.{Place}
-use Rattle.places.specs.Places.{test, testSlot, positionSlot, positionIn, hearSlotAt, hearAt}
+use Rattle.places.specs.Places.{test, testSlot, positionSlot, hearSlotAt, hearAt}
 use Rattle.rules.specs.Replies.{Verdict, f1, position, isPosition, covers, level, verdict, takes, settle, average, heardAt, bitOf}
 use Rattle.rules.proofs.Truth.{impossible, and-left}
 use Rattle.replies.specs.Sums.{wrapped, wordPlus}

@@ -2,18 +2,12 @@
 use Prim.Native.Nat.{ℕ}
 use mathlib.Core.Path.{_≡_, sym, ap, _∙_}
 use mathlib.Core.List.{[]}
-use lib.ListN.{replicate}
-use Rattle.rules.specs.declared.Machine.{Machine}
 use Rattle.rules.specs.Samples.{Trace}
-use Rattle.rules.specs.Machine.{start, after}
 use Rattle.rules.specs.Calls.{Answer as RulesAnswer, accepted, refused, openAnswer}
-use Rattle.places.specs.Places.{machineOf}
 use Rattle.sweep.specs.declared.Answer.{Answer}
 use Rattle.sweep.specs.declared.Answer.the-variants.{Accepted, Refused}
 use Rattle.processor.specs.declared.Processor.{Processor}
 use Rattle.sweep.specs.declared.Opened.{Opened}
-use Rattle.front.specs.declared.words.Front.{Front}
-use Rattle.front.specs.Words.{frontOf, recentOf}
 use Rattle.processor.specs.State.{runningProcessor, idleProcessor}
 use Rattle.sweep.specs.Post.{openAs, openOf}
 

@@ -19,7 +19,6 @@ use Rattle.rules.specs.Machine.{final, State, after}
 use Rattle.rules.specs.Records.{records, totals, replies}
 use Rattle.rules.specs.Calls.{Answer as RulesAnswer, accepted, refused, takeAnswer, closeAnswer, fresh, rest, silence}
 use Rattle.rules.proofs.PastEnd.{rest-silence, past-end, after-silence}
-use Rattle.places.specs.Places.{machineOf}
 use Rattle.rules.specs.Buffers.{over, over-at}
 use Rattle.sweep.specs.declared.Answer.{Answer}
 use Rattle.sweep.specs.declared.Answer.the-variants.{Accepted, Refused}
@@ -27,7 +26,6 @@ use Rattle.processor.specs.declared.Processor.{Processor}
 use Rattle.sweep.specs.declared.Taken.{Taken}
 use Rattle.sweep.specs.declared.Closed.{Closed}
 use Rattle.processor.specs.declared.Progress.{Progress}
-use Rattle.front.specs.Words.{frontOf, recentOf}
 use Rattle.processor.specs.State.{Sweep, none, running, idleProcessor, runningProcessor, processorOf, Within, Made}
 use Rattle.sweep.specs.Post.{takeAnswerAt, takeAs, takeBufferAs, TakePost, closeAnswerAt, closeAs, closeBufferAs, noTotals, ClosePost, totalsFrom}
 use Rattle.processor.specs.Arrays.{progressOf, machineAt}

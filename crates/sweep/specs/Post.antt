@@ -1,13 +1,11 @@
 -- What each operation returns and leaves in its buffer. The equations hold for every processor that belongs to a sweep (`Made`);
 -- for a processor value that no calls make, an operation is safe and ends.
 use Prim.Native.Nat.{ℕ, _+_, _-_}
-use mathlib.Core.Bool.{Bool, _&&_}
 use mathlib.Core.List.{List, [], _++_}
 use mathlib.Core.Path.{_≡_}
-use lib.Dec.{leb}
 use lib.ListN.{length}
 use Rattle.rules.specs.Settings.{standard}
-use Rattle.rules.specs.Samples.{Trace, _⧺_, pieceLimit, sweepLimit}
+use Rattle.rules.specs.Samples.{Trace, _⧺_}
 use Rattle.rules.specs.Buffers.{over}
 use Rattle.rules.specs.Machine.{final}
 use Rattle.rules.specs.Records.{records, totals}
@@ -15,19 +13,12 @@ use Rattle.rules.specs.Calls.{Answer, accepted, refused, openAnswer, takeAnswer
 use Rattle.rules.specs.declared.Totals.{Totals}
 use Rattle.sweep.specs.declared.Answer.the-variants.{Accepted, Refused}
 use Rattle.rules.specs.declared.Counts.{Counts}
-use Rattle.rules.specs.declared.Place.{Place}
-use Rattle.flags.specs.Flags.{noFlags}
-use Rattle.front.specs.declared.words.Front.{Front}
 use Rattle.processor.specs.declared.Processor.{Processor}
 use Rattle.sweep.specs.declared.Opened.{Opened}
 use Rattle.sweep.specs.declared.Taken.{Taken}
 use Rattle.sweep.specs.declared.Closed.{Closed}
 use Rattle.processor.specs.State.{Sweep, none, running, processorOf, idleProcessor, runningProcessor, isOpen, takenBy, Made}
 use Rattle.front.specs.Words.{recentOf}
-use Rattle.front.specs.Post.{blank}
-use Rattle.processor.specs.declared.Progress.{Progress}
-use Rattle.processor.specs.Arrays.{listed}
-use Rattle.blocks.specs.Steps.{noneDue}
 
 -- ---- open. "No processor comes back": a refused opening's is the idle one.
 
