@@ -22,10 +22,11 @@ use Rattle.processor.specs.declared.Processor.{Processor}
 use Rattle.processor.specs.State.{running, runningProcessor, processorOf, Made}
 use Rattle.sweep.specs.Post.{openOf}
 use Rattle.rules.proofs.Answers.{standard-allowed}
-use Rattle.whole.specs.declared.Reached.{Reached}
+use Rattle.takes.specs.declared.Reached.{Reached}
 use Rattle.refusals.specs.Whole.{wholeRoom, wholeAnswer}
-use Rattle.whole.specs.Post.{answerOf, recordsOf, totalsOf, WholePost, Taken, TakeAllPost, CloseAtPost}
-use Rattle.whole.proofs.Taking.{or-left, or-right, over-more, handed-most}
+use Rattle.whole.specs.Post.{answerOf, recordsOf, totalsOf, WholePost, CloseAtPost}
+use Rattle.takes.specs.Post.{Taken, TakeAllPost}
+use Rattle.takes.proofs.Taking.{or-left, or-right, over-more, handed-most}
 
 -- ---- a refusal
 

@@ -1,5 +1,3 @@
--- Laws of a whole sweep in one call: its pieces one after the other, the values that are kept between them, and what it answers.
-pub mod Pieces
-pub mod Taking
-pub mod Keeping
+-- Laws of a whole sweep in one call: the close behind its pieces, and what it answers.
+pub mod Closing
 pub mod Answering

@@ -1,4 +1,4 @@
-use Rattle.whole.proofs.Taking.{closed-refused, closed-accepted}
+use Rattle.whole.proofs.Closing.{closed-refused, closed-accepted}
 use borrow.Author.Needs.{needs}
 use Rattle.whole.proofs.close_at.Statement.{statement}
 use Rattle.whole.proofs.close_at.Tie as tie

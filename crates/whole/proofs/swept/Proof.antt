@@ -1,7 +1,7 @@
 use native.Mathlib.Omega.{arith}
 use borrow.Author.Needs.{needs}
 use Rattle.whole.proofs.Answering.{clear, whole-accepted}
-use Rattle.whole.proofs.Taking.{all-bytes}
+use Rattle.takes.proofs.Taking.{all-bytes}
 use Rattle.whole.proofs.swept.Statement.{statement}
 use Rattle.whole.proofs.swept.Tie as tie
 

@@ -1,9 +1,9 @@
 -- `keep_part` keeps a part of the values, or none where it is empty.
 use borrow.Author.Needs.{needs}
 use native.Mathlib.Omega.{arith}
-use Rattle.whole.proofs.Keeping.{keep-none}
-use Rattle.whole.proofs.keep_part.Statement.{statement}
-use Rattle.whole.proofs.keep_part.Tie as tie
+use Rattle.takes.proofs.Keeping.{keep-none}
+use Rattle.takes.proofs.keep_part.Statement.{statement}
+use Rattle.takes.proofs.keep_part.Tie as tie
 
 sub-keep : tie.Need-sub-keep
 sub-keep c = search needs

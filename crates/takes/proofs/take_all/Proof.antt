@@ -3,10 +3,10 @@ use Prim.Native.Nat.{ℕ, _+_, _-_}
 use native.Mathlib.Omega.{arith}
 use mathlib.Core.Path.{refl, ap}
 use lib.ListN.{length}
-use Rattle.whole.proofs.Taking.{all-bytes}
-use Rattle.whole.proofs.Keeping.{Late, late-start, late-fed, late-quiet, late-end}
-use Rattle.whole.proofs.take_all.Statement.{statement}
-use Rattle.whole.proofs.take_all.Tie as tie
+use Rattle.takes.proofs.Taking.{all-bytes}
+use Rattle.takes.proofs.Keeping.{Late, late-start, late-fed, late-quiet, late-end}
+use Rattle.takes.proofs.take_all.Statement.{statement}
+use Rattle.takes.proofs.take_all.Tie as tie
 
 abbrev Inv-loop : tie.InvT-loop
 Inv-loop p flags values piece out₀ n y₀ recent₀ kept₀ at₀ i₀ out y recent kept at i = Late p (record { flags = flags; values = values }) piece out₀ y recent kept at i out

@@ -1,7 +1,7 @@
 -- `arrived` puts together what is known.
 use borrow.Author.Needs.{needs}
-use Rattle.whole.proofs.arrived.Statement.{statement}
-use Rattle.whole.proofs.arrived.Tie as tie
+use Rattle.takes.proofs.arrived.Statement.{statement}
+use Rattle.takes.proofs.arrived.Tie as tie
 
 moved-requires : tie.Need-moved-requires
 moved-requires c κs = search needs

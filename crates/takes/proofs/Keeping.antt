@@ -21,9 +21,9 @@ use Rattle.front.specs.Post.{KeepPost}
 use Rattle.front.proofs.ValueLaws.{recent-more}
 use Rattle.blocks.specs.Steps.{quiet}
 use Rattle.pieces.specs.Feeding.{FeedPost}
-use Rattle.whole.specs.declared.Reached.{Reached}
-use Rattle.whole.specs.Post.{part, arrivedAt, Taken, TakeAllPost}
-use Rattle.whole.proofs.Taking.{Takings, takings-start, takings-fed, takings-quiet, takings-end}
+use Rattle.takes.specs.declared.Reached.{Reached}
+use Rattle.takes.specs.Post.{part, arrivedAt, Taken, TakeAllPost}
+use Rattle.takes.proofs.Taking.{Takings, takings-start, takings-fed, takings-quiet, takings-end}
 
 -- nothing more is kept of a part that is empty
 pub keep-none : (recent l : List ℕ) (from to : ℕ) → to ≤ from → KeepPost recent (part from to l) recent

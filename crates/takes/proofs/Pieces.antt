@@ -30,7 +30,7 @@ use Rattle.rules.proofs.Answers.{took}
 use Rattle.processor.proofs.ProcessorLaws.{mode-of, azimuth-of, taken-of, front-of, recent-of, machine-of}
 use Rattle.sweep.proofs.Resting.{quiet-rests}
 use Rattle.blocks.proofs.Working.{over-nil}
-use Rattle.whole.specs.declared.Reached.{Reached}
+use Rattle.takes.specs.declared.Reached.{Reached}
 
 unfoldable pub isRefused : Answer → Bool
 isRefused (Accepted n) = false

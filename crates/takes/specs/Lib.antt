@@ -1,0 +1,2 @@
+-- What all pieces of a trace make of a sweep.
+pub mod Post
