@@ -1,6 +1,6 @@
 -- Which of the four places cover an edge and agree with its value.
 use Prim.Native.Nat.{ℕ}
-use mathlib.Core.Bool.{Bool, _&&_}
+use mathlib.Core.Bool.{_&&_}
 use mathlib.Core.List.{List}
 use lib.ListN.{getD}
 use Rattle.rules.specs.declared.Place.{Place}
@@ -12,22 +12,23 @@ use Rattle.marking.specs.declared.Words.{Words}
 use Rattle.agreement.specs.declared.Voices.{Voices}
 use Rattle.agreement.specs.declared.Agreement.{Agreement}
 
-abbrev pub voicesBy : ℕ → Bool → Bool → Bool → Bool → List Place → Voices
-voicesBy v a b c d l =
+-- those whose word marks tick i
+abbrev pub coversIn : Words → ℕ → Voices
+coversIn w i = record { a = bit (w .a) i; b = bit (w .b) i; c = bit (w .c) i; d = bit (w .d) i }
+
+-- of those that cover it, by c, the ones that agree with v
+abbrev pub voicesBy : ℕ → Voices → List Place → Voices
+voicesBy v c l =
     record {
-      a = a && test (agrees standard v) (getD l 0 idle);
-      b = b && test (agrees standard v) (getD l 1 idle);
-      c = c && test (agrees standard v) (getD l 2 idle);
-      d = d && test (agrees standard v) (getD l 3 idle);
+      a = c .a && test (agrees standard v) (getD l 0 idle);
+      b = c .b && test (agrees standard v) (getD l 1 idle);
+      c = c .c && test (agrees standard v) (getD l 2 idle);
+      d = c .d && test (agrees standard v) (getD l 3 idle);
     }
 
-abbrev pub voicesIn : ℕ → Words → ℕ → List Place → Voices
-voicesIn v w i l = voicesBy v (bit (w .a) i) (bit (w .b) i) (bit (w .c) i) (bit (w .d) i) l
+-- whether another does
+abbrev pub othersOf : Voices → Voices
+othersOf v = record { a = any3 (v .b) (v .c) (v .d); b = any3 (v .a) (v .c) (v .d); c = any3 (v .a) (v .b) (v .d); d = any3 (v .a) (v .b) (v .c) }
 
--- each, and whether another does
-abbrev pub agreementBy : Voices → Agreement
-agreementBy v =
-    record {
-      own = v;
-      other = record { a = any3 (v .b) (v .c) (v .d); b = any3 (v .a) (v .c) (v .d); c = any3 (v .a) (v .b) (v .d); d = any3 (v .a) (v .b) (v .c) };
-    }
+abbrev pub agreementBy : ℕ → Voices → List Place → Agreement
+agreementBy v c l = record { covers = c; own = voicesBy v c l; other = othersOf (voicesBy v c l) }

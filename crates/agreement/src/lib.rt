@@ -5,7 +5,7 @@ ghost use mathlib.Core.Bool.{_&&_};
 ghost use Rattle.rules.specs.Replies.{agrees};
 ghost use Rattle.rules.specs.Settings.{standard};
 ghost use Rattle.places.specs.Places.{test};
-ghost use Rattle.agreement.specs.Voices.{voicesIn, agreementBy};
+ghost use Rattle.agreement.specs.Voices.{coversIn, voicesBy, agreementBy};
 use marking::Words;
 use places::any3;
 use plane::marked;
@@ -14,7 +14,7 @@ use replies::near;
 use rules::Place;
 use rules::Slot;
 
-// Whether each place covers an edge whose value agrees with its reference.
+// Something said of each of the four places.
 pub struct Voices {
     pub a: bool,
     pub b: bool,
@@ -37,34 +37,45 @@ pub fn speaks(c: bool, p: Place, v: u8) -> bool
     }
 }
 
-fn voices_of(p: [Place; 4], on: Words, i: u32, v: u8) -> Voices
-    requires { ⌜ i < 64 ⌝ }
-    ensures { λ r. ⌜ r ≡ voicesIn v on i p ⌝ }
+// Whether each place covers an edge, which c says, and agrees with its value.
+fn voices_of(p: [Place; 4], c: Voices, v: u8) -> Voices
+    ensures { λ r. ⌜ r ≡ voicesBy v c p ⌝ }
 {
     Voices {
-        a: speaks(marked(on.a, i), p[0], v),
-        b: speaks(marked(on.b, i), p[1], v),
-        c: speaks(marked(on.c, i), p[2], v),
-        d: speaks(marked(on.d, i), p[3], v),
+        a: speaks(c.a, p[0], v),
+        b: speaks(c.b, p[1], v),
+        c: speaks(c.c, p[2], v),
+        d: speaks(c.d, p[3], v),
     }
 }
 
-// Of the places that cover an edge: whose reference its value agrees with, and beside whom it agrees with another's.
+// Which places cover an edge; of these, whose reference its value agrees with, and beside whom it agrees with another's.
 pub struct Agreement {
+    pub covers: Voices,
     pub own: Voices,
     pub other: Voices,
 }
 
 pub fn agreement_of(p: [Place; 4], on: Words, i: u32, v: u8) -> Agreement
     requires { ⌜ i < 64 ⌝ }
-    ensures { λ r. ⌜ r ≡ agreementBy (voicesIn v on i p) ⌝ }
+    ensures { λ r. ⌜ r ≡ agreementBy v (coversIn on i) p ⌝ }
 {
-    let own = voices_of(p, on, i, v);
+    let covers = Voices {
+        a: marked(on.a, i),
+        b: marked(on.b, i),
+        c: marked(on.c, i),
+        d: marked(on.d, i),
+    };
+    let own = voices_of(p, covers, v);
     let other = Voices {
         a: any3(own.b, own.c, own.d),
         b: any3(own.a, own.c, own.d),
         c: any3(own.a, own.b, own.d),
         d: any3(own.a, own.b, own.c),
     };
-    Agreement { own, other }
+    Agreement {
+        covers,
+        own,
+        other,
+    }
 }

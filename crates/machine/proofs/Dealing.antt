@@ -23,7 +23,7 @@ use Rattle.marking.specs.declared.Words.{Words}
 use Rattle.marking.specs.Marks.{four, Marked, AnyWord, twoOf, TwiceWord, whichOf}
 use Rattle.agreement.specs.declared.Voices.{Voices}
 use Rattle.agreement.specs.declared.Agreement.{Agreement}
-use Rattle.agreement.specs.Voices.{voicesBy, voicesIn, agreementBy}
+use Rattle.agreement.specs.Voices.{coversIn, voicesBy, othersOf, agreementBy}
 use Rattle.settling.specs.Deals.{heardBy, hearing, DealPost}
 use Rattle.settling.proofs.Hearing.{covered-law}
 
@@ -41,7 +41,7 @@ pub record OnePost (l : List Place) (j : ℕ) (e : Pulse) (r : List Place) : Typ
   pub at : test (covers (e .tick .0)) (getD l j idle) ≡ true → r ≡ set l j (hearing e (true && test (agrees standard (e .value)) (getD l j idle)) false (getD l j idle))
 
 pub record AllPost (l : List Place) (w : Words) (i : ℕ) (e : Pulse) (r : List Place) : Type 0 where
-  pub at : Marked w i (covers (e .tick .0)) l → r ≡ allTurned e (bit (w .a) i) (bit (w .b) i) (bit (w .c) i) (bit (w .d) i) (voicesIn (e .value) w i l) l
+  pub at : Marked w i (covers (e .tick .0)) l → r ≡ allTurned e (bit (w .a) i) (bit (w .b) i) (bit (w .c) i) (bit (w .d) i) (voicesBy (e .value) (coversIn w i) l) l
 
 pub either : {A B C : Type 0} → A ⊎ B → (A → C) → (B → C) → C
 either (inl a) f g = f a
@@ -135,9 +135,9 @@ turns e a b c d v (w ∷ x ∷ y ∷ z ∷ t ∷ l) s = absurd (omega arith)
 
 pub all-dealt : (e : Pulse) (a b c d : Bool) (l : List Place) → length l ≡ 4 → a ≡ test (covers (e .tick .0)) (getD l 0 idle) → b ≡ test (covers (e .tick .0)) (getD l 1 idle)
     → c ≡ test (covers (e .tick .0)) (getD l 2 idle) → d ≡ test (covers (e .tick .0)) (getD l 3 idle)
-    → four (allTurned e a b c d (voicesBy (e .value) a b c d l) l) ≡ dealt wrapped standard e (four l)
+    → four (allTurned e a b c d (voicesBy (e .value) (record { a = a; b = b; c = c; d = d }) l) l) ≡ dealt wrapped standard e (four l)
 all-dealt e a b c d l s ha hb hc hd =
-    let v = voicesBy (e .value) a b c d l in
+    let v = voicesBy (e .value) (record { a = a; b = b; c = c; d = d }) l in
     let u = e .tick .0 in
     let p0 = getD l 0 idle in
     let p1 = getD l 1 idle in
@@ -155,7 +155,7 @@ all-dealt e a b c d l s ha hb hc hd =
 oneTurned : Pulse → ℕ → List Place → List Place
 oneTurned e j l = set l j (hearing e (true && test (agrees standard (e .value)) (getD l j idle)) false (getD l j idle))
 
-one-of : (e : Pulse) (a b c d : Bool) (l : List Place) → (a || any3 b c d) ≡ true → twoOf a b c d ≡ false → oneTurned e (whichOf b c d) l ≡ allTurned e a b c d (voicesBy (e .value) a b c d l) l
+one-of : (e : Pulse) (a b c d : Bool) (l : List Place) → (a || any3 b c d) ≡ true → twoOf a b c d ≡ false → oneTurned e (whichOf b c d) l ≡ allTurned e a b c d (voicesBy (e .value) (record { a = a; b = b; c = c; d = d }) l) l
 unfolding oneTurned
 one-of e true false false false l h k = refl
 one-of e false true false false l h k = refl
@@ -184,7 +184,7 @@ only p false true true d l h k ha hb hc hd = absurd (impossible k)
 only p false true false true l h k ha hb hc hd = absurd (impossible k)
 only p false false true true l h k ha hb hc hd = absurd (impossible k)
 
-none-of : (e : Pulse) (a b c d : Bool) (l : List Place) → (a || any3 b c d) ≡ false → l ≡ allTurned e a b c d (voicesBy (e .value) a b c d l) l
+none-of : (e : Pulse) (a b c d : Bool) (l : List Place) → (a || any3 b c d) ≡ false → l ≡ allTurned e a b c d (voicesBy (e .value) (record { a = a; b = b; c = c; d = d }) l) l
 none-of e false false false false l h = refl
 none-of e true b c d l h = absurd (impossible h)
 none-of e false true c d l h = absurd (impossible h)
@@ -200,7 +200,7 @@ one-law l m j e own y ho h s =
 
 module _ (l : List Place) (w : Words) (i : ℕ) (e : Pulse) (s : length l ≡ 4) where
   dealt-by : Marked w i (covers (e .tick .0)) l
-      → four (allTurned e (bit (w .a) i) (bit (w .b) i) (bit (w .c) i) (bit (w .d) i) (voicesIn (e .value) w i l) l) ≡ dealt wrapped standard e (four l)
+      → four (allTurned e (bit (w .a) i) (bit (w .b) i) (bit (w .c) i) (bit (w .d) i) (voicesBy (e .value) (coversIn w i) l) l) ≡ dealt wrapped standard e (four l)
   dealt-by k = all-dealt e (bit (w .a) i) (bit (w .b) i) (bit (w .c) i) (bit (w .d) i) l s (k .a) (k .b) (k .c) (k .d)
 
   pub deal-all-law : (r : List Place) → AllPost l w i e r → DealPost l w i e r
@@ -266,32 +266,36 @@ pub record Dealt (l : List Place) (w : Words) (i : ℕ) (e : Pulse) (m : List Pl
   pub size : length m ≡ length l
   pub deal : DealPost l w i e m
 
--- the edge goes to the four places, one after the other; x says who agrees
-pub deals-four : (l m₁ m₂ m₃ m₄ : List Place) (w : Words) (i : ℕ) (e : Pulse) → length l ≡ 4 → (a b c d : Bool) → a ≡ bit (w .a) i → b ≡ bit (w .b) i → c ≡ bit (w .c) i → d ≡ bit (w .d) i
-    → (x : Agreement) → x ≡ agreementBy (voicesIn (e .value) w i l) → Turns a 0 e (x .own .a) (x .other .a) l m₁ → Turns b 1 e (x .own .b) (x .other .b) m₁ m₂ → Turns c 2 e (x .own .c) (x .other .c) m₂ m₃
-    → Turns d 3 e (x .own .d) (x .other .d) m₃ m₄ → Dealt l w i e m₄
-deals-four l m₁ m₂ m₃ m₄ w i e s a b c d ea eb ec ed x ex ta tb tc td =
-    let v = voicesIn (e .value) w i l in
-    let ta′ : Turns a 0 e (v .a) (any3 (v .b) (v .c) (v .d)) l m₁ = subst (λ (y : Agreement). Turns a 0 e (y .own .a) (y .other .a) l m₁) ex ta in
-    let tb′ : Turns b 1 e (v .b) (any3 (v .a) (v .c) (v .d)) m₁ m₂ = subst (λ (y : Agreement). Turns b 1 e (y .own .b) (y .other .b) m₁ m₂) ex tb in
-    let tc′ : Turns c 2 e (v .c) (any3 (v .a) (v .b) (v .d)) m₂ m₃ = subst (λ (y : Agreement). Turns c 2 e (y .own .c) (y .other .c) m₂ m₃) ex tc in
-    let td′ : Turns d 3 e (v .d) (any3 (v .a) (v .b) (v .c)) m₃ m₄ = subst (λ (y : Agreement). Turns d 3 e (y .own .d) (y .other .d) m₃ m₄) ex td in
+-- the edge goes to the four places, one after the other; x says who covers it and who agrees
+pub deals-four : (l m₁ m₂ m₃ m₄ : List Place) (w : Words) (i : ℕ) (e : Pulse) → length l ≡ 4 → (x : Agreement) → x ≡ agreementBy (e .value) (coversIn w i) l
+    → Turns (x .covers .a) 0 e (x .own .a) (x .other .a) l m₁ → Turns (x .covers .b) 1 e (x .own .b) (x .other .b) m₁ m₂ → Turns (x .covers .c) 2 e (x .own .c) (x .other .c) m₂ m₃
+    → Turns (x .covers .d) 3 e (x .own .d) (x .other .d) m₃ m₄ → Dealt l w i e m₄
+deals-four l m₁ m₂ m₃ m₄ w i e s x ex ta tb tc td =
+    let a = bit (w .a) i in
+    let b = bit (w .b) i in
+    let c = bit (w .c) i in
+    let d = bit (w .d) i in
+    let v = voicesBy (e .value) (coversIn w i) l in
+    let o = othersOf v in
+    let ta′ : Turns a 0 e (v .a) (o .a) l m₁ = subst (λ (y : Agreement). Turns (y .covers .a) 0 e (y .own .a) (y .other .a) l m₁) ex ta in
+    let tb′ : Turns b 1 e (v .b) (o .b) m₁ m₂ = subst (λ (y : Agreement). Turns (y .covers .b) 1 e (y .own .b) (y .other .b) m₁ m₂) ex tb in
+    let tc′ : Turns c 2 e (v .c) (o .c) m₂ m₃ = subst (λ (y : Agreement). Turns (y .covers .c) 2 e (y .own .c) (y .other .c) m₂ m₃) ex tc in
+    let td′ : Turns d 3 e (v .d) (o .d) m₃ m₄ = subst (λ (y : Agreement). Turns (y .covers .d) 3 e (y .own .d) (y .other .d) m₃ m₄) ex td in
     record {
       size =
-          turns-size d 3 e (v .d) (any3 (v .a) (v .b) (v .c)) m₃ m₄ td′ ∙ turns-size c 2 e (v .c) (any3 (v .a) (v .b) (v .d)) m₂ m₃ tc′
-          ∙ turns-size b 1 e (v .b) (any3 (v .a) (v .c) (v .d)) m₁ m₂ tb′ ∙ turns-size a 0 e (v .a) (any3 (v .b) (v .c) (v .d)) l m₁ ta′;
+          turns-size d 3 e (v .d) (o .d) m₃ m₄ td′ ∙ turns-size c 2 e (v .c) (o .c) m₂ m₃ tc′ ∙ turns-size b 1 e (v .b) (o .b) m₁ m₂ tb′ ∙ turns-size a 0 e (v .a) (o .a) l m₁ ta′;
       deal =
           deal-all-law l w i e s m₄
           (record {
             at = λ k.
-                let fa : Place → Place = hearing e (v .a) (any3 (v .b) (v .c) (v .d)) in
-                let fb : Place → Place = hearing e (v .b) (any3 (v .a) (v .c) (v .d)) in
-                let fc : Place → Place = hearing e (v .c) (any3 (v .a) (v .b) (v .d)) in
-                let e0 = turned-by a 0 e (v .a) (any3 (v .b) (v .c) (v .d)) l l m₁ (ea ∙ k .a) refl ta′ in
-                let e1 = turned-by b 1 e (v .b) (any3 (v .a) (v .c) (v .d)) l m₁ m₂ (eb ∙ k .b) (second-stays a b c fa fb fc l m₁ l l e0) tb′ in
-                let e2 = turned-by c 2 e (v .c) (any3 (v .a) (v .b) (v .d)) l m₂ m₃ (ec ∙ k .c) (third-stays a b c fa fb fc l m₁ m₂ l e0 e1) tc′ in
-                let e3 = turned-by d 3 e (v .d) (any3 (v .a) (v .b) (v .c)) l m₃ m₄ (ed ∙ k .d) (fourth-stays a b c fa fb fc l m₁ m₂ m₃ e0 e1 e2) td′ in
-                chain e a b c d v l m₁ m₂ m₃ m₄ e0 e1 e2 e3 ∙ (λ j. allTurned e (ea j) (eb j) (ec j) (ed j) v l);
+                let fa : Place → Place = hearing e (v .a) (o .a) in
+                let fb : Place → Place = hearing e (v .b) (o .b) in
+                let fc : Place → Place = hearing e (v .c) (o .c) in
+                let e0 = turned-by a 0 e (v .a) (o .a) l l m₁ (k .a) refl ta′ in
+                let e1 = turned-by b 1 e (v .b) (o .b) l m₁ m₂ (k .b) (second-stays a b c fa fb fc l m₁ l l e0) tb′ in
+                let e2 = turned-by c 2 e (v .c) (o .c) l m₂ m₃ (k .c) (third-stays a b c fa fb fc l m₁ m₂ l e0 e1) tc′ in
+                let e3 = turned-by d 3 e (v .d) (o .d) l m₃ m₄ (k .d) (fourth-stays a b c fa fb fc l m₁ m₂ m₃ e0 e1 e2) td′ in
+                chain e a b c d v l m₁ m₂ m₃ m₄ e0 e1 e2 e3;
           });
     }
 

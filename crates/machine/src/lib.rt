@@ -166,21 +166,17 @@ pub fn work(
             }
             if marked(both, i) {
                 let v = agreement_of(places, on, i, e.value);
-                if marked(on.a, i) {
-                    let q = places[0];
-                    places[0] = heard(q, e, v.own.a, v.other.a);
+                if v.covers.a {
+                    places[0] = heard(places[0], e, v.own.a, v.other.a);
                 }
-                if marked(on.b, i) {
-                    let q = places[1];
-                    places[1] = heard(q, e, v.own.b, v.other.b);
+                if v.covers.b {
+                    places[1] = heard(places[1], e, v.own.b, v.other.b);
                 }
-                if marked(on.c, i) {
-                    let q = places[2];
-                    places[2] = heard(q, e, v.own.c, v.other.c);
+                if v.covers.c {
+                    places[2] = heard(places[2], e, v.own.c, v.other.c);
                 }
-                if marked(on.d, i) {
-                    let q = places[3];
-                    places[3] = heard(q, e, v.own.d, v.other.d);
+                if v.covers.d {
+                    places[3] = heard(places[3], e, v.own.d, v.other.d);
                 }
             } else {
                 if marked(any_word(on), i) {

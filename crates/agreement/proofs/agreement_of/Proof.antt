@@ -1,9 +1,23 @@
 -- `agreement::agreement_of` meets its contract.
-use mathlib.Core.Path.{ap, _∙_}
-use Rattle.agreement.specs.Voices.{agreementBy}
+use mathlib.Core.Path.{_≡_, ap, _∙_}
+use Rattle.places.specs.Places.{any3}
+use Rattle.agreement.specs.declared.Voices.{Voices}
+use Rattle.agreement.specs.Voices.{coversIn, agreementBy}
 use borrow.Author.Needs.{needs}
 use Rattle.agreement.proofs.agreement_of.Statement.{statement}
 use Rattle.agreement.proofs.agreement_of.Tie as tie
+
+marked-requires : tie.Need-marked-requires
+marked-requires c κs = search needs
+
+marked-requires-2 : tie.Need-marked-requires-2
+marked-requires-2 c κs = search needs
+
+marked-requires-3 : tie.Need-marked-requires-3
+marked-requires-3 c κs = search needs
+
+marked-requires-4 : tie.Need-marked-requires-4
+marked-requires-4 c κs = search needs
 
 voices-of-requires : tie.Need-voices-of-requires
 voices-of-requires c κs = search needs
@@ -22,23 +36,32 @@ any3-requires-4 c κs = search needs
 
 returns : tie.Need-returns
 returns c =
-    let voicesof = c .before .before .before .before .voices-of in
+    let b = c .before .before .before .before in
+    let args = b .before .before .before .before .before .args in
+    let covers : Voices = record { a = b .before .before .before .before .marked .result; b = b .before .before .before .marked2 .result; c = b .before .before .marked3 .result; d = b .before .marked4 .result } in
+    let covers-as : covers ≡ coversIn (args .on) (args .i) =
+        λ i. record { a = b .before .before .before .before .marked .ensures i; b = b .before .before .before .marked2 .ensures i; c = b .before .before .marked3 .ensures i; d = b .before .marked4 .ensures i } in
     (λ i. record {
-      own = voicesof .result;
+      covers = covers;
+      own = b .voices-of .ensures i;
       other =
           record {
-            a = c .before .before .before .any3 .ensures i;
-            b = c .before .before .any32 .ensures i;
-            c = c .before .any33 .ensures i;
-            d = c .any34 .ensures i;
+            a = (c .before .before .before .any3 .ensures ∙ ap (λ (v : Voices). any3 (v .b) (v .c) (v .d)) (b .voices-of .ensures)) i;
+            b = (c .before .before .any32 .ensures ∙ ap (λ (v : Voices). any3 (v .a) (v .c) (v .d)) (b .voices-of .ensures)) i;
+            c = (c .before .any33 .ensures ∙ ap (λ (v : Voices). any3 (v .a) (v .b) (v .d)) (b .voices-of .ensures)) i;
+            d = (c .any34 .ensures ∙ ap (λ (v : Voices). any3 (v .a) (v .b) (v .c)) (b .voices-of .ensures)) i;
           };
     })
-    ∙ ap agreementBy (voicesof .ensures)
+    ∙ ap (λ (x : Voices). agreementBy (args .v) x (args .p)) covers-as
 
 pub agreement-of-spec : {M : Type 1} → statement M
 agreement-of-spec =
     tie.close
     (tie.spec
+    marked-requires
+    marked-requires-2
+    marked-requires-3
+    marked-requires-4
     voices-of-requires
     any3-requires
     any3-requires-2

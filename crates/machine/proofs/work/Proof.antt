@@ -545,13 +545,8 @@ agreement-of-requires c κs =
     let lowest = c .before .before .before .before .before .before .before .before .before .lowest in
     lowest .ensures .below
 
-marked-requires-2 : tie.Need-marked-requires-2 Inv-loop2 μ-loop2 Inv-loop3 μ-loop3 Inv-loop μ-loop
-marked-requires-2 c κs =
-    let lowest = c .before .before .before .before .before .before .before .before .before .before .lowest in
-    lowest .ensures .below
-
-array-copy-out-q : tie.Need-array-copy-out-q Inv-loop2 μ-loop2 Inv-loop3 μ-loop3 Inv-loop μ-loop
-array-copy-out-q c = search needs
+array-copy-out-heard : tie.Need-array-copy-out-heard Inv-loop2 μ-loop2 Inv-loop3 μ-loop3 Inv-loop μ-loop
+array-copy-out-heard c = search needs
 
 heard-requires : tie.Need-heard-requires Inv-loop2 μ-loop2 Inv-loop3 μ-loop3 Inv-loop μ-loop
 heard-requires c κs = search needs
@@ -560,14 +555,9 @@ array-set-from-places-2 :
     tie.Need-array-set-from-places-2 Inv-loop2 μ-loop2 Inv-loop3 μ-loop3 Inv-loop μ-loop
 array-set-from-places-2 c = search needs
 
-marked-requires-3 : tie.Need-marked-requires-3 Inv-loop2 μ-loop2 Inv-loop3 μ-loop3 Inv-loop μ-loop
-marked-requires-3 c κs =
-    let lowest = c .before .before .before .before .before .before .before .before .before .before .before .before .lowest in
-    lowest .ensures .below
-
-array-copy-out-q-2 :
-    tie.Need-array-copy-out-q-2 Inv-loop2 μ-loop2 Inv-loop3 μ-loop3 Inv-loop μ-loop
-array-copy-out-q-2 c = search needs
+array-copy-out-heard-2 :
+    tie.Need-array-copy-out-heard-2 Inv-loop2 μ-loop2 Inv-loop3 μ-loop3 Inv-loop μ-loop
+array-copy-out-heard-2 c = search needs
 
 heard-requires-2 : tie.Need-heard-requires-2 Inv-loop2 μ-loop2 Inv-loop3 μ-loop3 Inv-loop μ-loop
 heard-requires-2 c κs = search needs
@@ -576,14 +566,9 @@ array-set-from-places-3 :
     tie.Need-array-set-from-places-3 Inv-loop2 μ-loop2 Inv-loop3 μ-loop3 Inv-loop μ-loop
 array-set-from-places-3 c = search needs
 
-marked-requires-4 : tie.Need-marked-requires-4 Inv-loop2 μ-loop2 Inv-loop3 μ-loop3 Inv-loop μ-loop
-marked-requires-4 c κs =
-    let lowest = c .before .before .before .before .before .before .before .before .before .before .before .before .before .before .lowest in
-    lowest .ensures .below
-
-array-copy-out-q-3 :
-    tie.Need-array-copy-out-q-3 Inv-loop2 μ-loop2 Inv-loop3 μ-loop3 Inv-loop μ-loop
-array-copy-out-q-3 c = search needs
+array-copy-out-heard-3 :
+    tie.Need-array-copy-out-heard-3 Inv-loop2 μ-loop2 Inv-loop3 μ-loop3 Inv-loop μ-loop
+array-copy-out-heard-3 c = search needs
 
 heard-requires-3 : tie.Need-heard-requires-3 Inv-loop2 μ-loop2 Inv-loop3 μ-loop3 Inv-loop μ-loop
 heard-requires-3 c κs = search needs
@@ -592,14 +577,9 @@ array-set-from-places-4 :
     tie.Need-array-set-from-places-4 Inv-loop2 μ-loop2 Inv-loop3 μ-loop3 Inv-loop μ-loop
 array-set-from-places-4 c = search needs
 
-marked-requires-5 : tie.Need-marked-requires-5 Inv-loop2 μ-loop2 Inv-loop3 μ-loop3 Inv-loop μ-loop
-marked-requires-5 c κs =
-    let lowest = c .before .before .before .before .before .before .before .before .before .before .before .before .before .before .before .before .lowest in
-    lowest .ensures .below
-
-array-copy-out-q-4 :
-    tie.Need-array-copy-out-q-4 Inv-loop2 μ-loop2 Inv-loop3 μ-loop3 Inv-loop μ-loop
-array-copy-out-q-4 c = search needs
+array-copy-out-heard-4 :
+    tie.Need-array-copy-out-heard-4 Inv-loop2 μ-loop2 Inv-loop3 μ-loop3 Inv-loop μ-loop
+array-copy-out-heard-4 c = search needs
 
 heard-requires-4 : tie.Need-heard-requires-4 Inv-loop2 μ-loop2 Inv-loop3 μ-loop3 Inv-loop μ-loop
 heard-requires-4 c κs = search needs
@@ -611,8 +591,8 @@ array-set-from-places-5 c = search needs
 any-word-requires : tie.Need-any-word-requires Inv-loop2 μ-loop2 Inv-loop3 μ-loop3 Inv-loop μ-loop
 any-word-requires c κs = search needs
 
-marked-requires-6 : tie.Need-marked-requires-6 Inv-loop2 μ-loop2 Inv-loop3 μ-loop3 Inv-loop μ-loop
-marked-requires-6 c κs =
+marked-requires-2 : tie.Need-marked-requires-2 Inv-loop2 μ-loop2 Inv-loop3 μ-loop3 Inv-loop μ-loop
+marked-requires-2 c κs =
     let lowest = c .before .before .before .before .before .before .before .before .before .before .lowest in
     lowest .ensures .below
 
@@ -624,9 +604,9 @@ which-requires c κs =
 mul-q : tie.Need-mul-q Inv-loop2 μ-loop2 Inv-loop3 μ-loop3 Inv-loop μ-loop
 mul-q c = search needs
 
-array-copy-out-q-5 :
-    tie.Need-array-copy-out-q-5 Inv-loop2 μ-loop2 Inv-loop3 μ-loop3 Inv-loop μ-loop
-array-copy-out-q-5 c = search needs
+array-copy-out-q :
+    tie.Need-array-copy-out-q Inv-loop2 μ-loop2 Inv-loop3 μ-loop3 Inv-loop μ-loop
+array-copy-out-q c = search needs
 
 speaks-requires : tie.Need-speaks-requires Inv-loop2 μ-loop2 Inv-loop3 μ-loop3 Inv-loop μ-loop
 speaks-requires c κs = search needs
@@ -701,29 +681,29 @@ loop2-again-3 c =
     (λ w. stood-plain (span-of .result) (lowest .result) (tick-of .result .0) (args .recent .now) (args .base) (args .values .now) (has-bracket .result) (has-bracket .ensures) (block-length .result) (edge-at .result) (loop2 .places) (loop2 .on) (loop2 .risk) (loop2 .counts) (loop2 .todo) (loop2 .from) (loop2 .inv .0 .todos) (lowest .ensures) (w .0 .left) (if4 .places) (if4 .on) (if4 .risk) (if4 .counts) (if4 .todo) (w .1 .result) (w .1 .ensures) (w .2) (w .3) (w .4) (w .6) (w .7)) in
     let dealt : Dealt (if4 .places) (if4 .on) (lowest .result) (edge-at .result) (if7 .places) =
     either (if7 .came)
-    (λ w. (subst (λ (m : List Place). Dealt (if4 .places) (if4 .on) (lowest .result) (edge-at .result) m) (sym (w .12)) (deals-four (if4 .places) (w .3 .places) (w .5 .places) (w .7 .places) (set (w .7 .places) 3 (w .11 .result)) (if4 .on) (lowest .result) (edge-at .result) (stood .size ∙ size) (w .2 .result) (w .4 .result) (w .6 .result) (w .8 .result) (w .2 .ensures) (w .4 .ensures) (w .6 .ensures) (w .8 .ensures) (w .1 .result) (w .1 .ensures)
+    (λ w. (subst (λ (m : List Place). Dealt (if4 .places) (if4 .on) (lowest .result) (edge-at .result) m) (sym (w .8)) (deals-four (if4 .places) (w .2 .places) (w .3 .places) (w .4 .places) (set (w .4 .places) 3 (w .7 .result)) (if4 .on) (lowest .result) (edge-at .result) (stood .size ∙ size) (w .1 .result) (w .1 .ensures)
+    (either (w .2 .came)
+    (λ z. turns-did (w .1 .result .covers .a) 0 (edge-at .result) (w .1 .result .own .a) (w .1 .result .other .a) (if4 .places) (w .2 .places) (z .2 .result) (z .0 .taken) (z .3) (z .2 .ensures))
+    (λ z. turns-not (w .1 .result .covers .a) 0 (edge-at .result) (w .1 .result .own .a) (w .1 .result .other .a) (if4 .places) (w .2 .places) (z .0 .left) (z .1)))
     (either (w .3 .came)
-    (λ z. turns-did (w .2 .result) 0 (edge-at .result) (w .1 .result .own .a) (w .1 .result .other .a) (if4 .places) (w .3 .places) (z .2 .result) (z .0 .taken) (z .3) (z .2 .ensures))
-    (λ z. turns-not (w .2 .result) 0 (edge-at .result) (w .1 .result .own .a) (w .1 .result .other .a) (if4 .places) (w .3 .places) (z .0 .left) (z .1)))
-    (either (w .5 .came)
-    (λ z. turns-did (w .4 .result) 1 (edge-at .result) (w .1 .result .own .b) (w .1 .result .other .b) (w .3 .places) (w .5 .places) (z .2 .result) (z .0 .taken) (z .3) (z .2 .ensures))
-    (λ z. turns-not (w .4 .result) 1 (edge-at .result) (w .1 .result .own .b) (w .1 .result .other .b) (w .3 .places) (w .5 .places) (z .0 .left) (z .1)))
-    (either (w .7 .came)
-    (λ z. turns-did (w .6 .result) 2 (edge-at .result) (w .1 .result .own .c) (w .1 .result .other .c) (w .5 .places) (w .7 .places) (z .2 .result) (z .0 .taken) (z .3) (z .2 .ensures))
-    (λ z. turns-not (w .6 .result) 2 (edge-at .result) (w .1 .result .own .c) (w .1 .result .other .c) (w .5 .places) (w .7 .places) (z .0 .left) (z .1)))
-    (turns-did (w .8 .result) 3 (edge-at .result) (w .1 .result .own .d) (w .1 .result .other .d) (w .7 .places) (set (w .7 .places) 3 (w .11 .result)) (w .11 .result) (w .9 .taken) refl (w .11 .ensures)))))
+    (λ z. turns-did (w .1 .result .covers .b) 1 (edge-at .result) (w .1 .result .own .b) (w .1 .result .other .b) (w .2 .places) (w .3 .places) (z .2 .result) (z .0 .taken) (z .3) (z .2 .ensures))
+    (λ z. turns-not (w .1 .result .covers .b) 1 (edge-at .result) (w .1 .result .own .b) (w .1 .result .other .b) (w .2 .places) (w .3 .places) (z .0 .left) (z .1)))
+    (either (w .4 .came)
+    (λ z. turns-did (w .1 .result .covers .c) 2 (edge-at .result) (w .1 .result .own .c) (w .1 .result .other .c) (w .3 .places) (w .4 .places) (z .2 .result) (z .0 .taken) (z .3) (z .2 .ensures))
+    (λ z. turns-not (w .1 .result .covers .c) 2 (edge-at .result) (w .1 .result .own .c) (w .1 .result .other .c) (w .3 .places) (w .4 .places) (z .0 .left) (z .1)))
+    (turns-did (w .1 .result .covers .d) 3 (edge-at .result) (w .1 .result .own .d) (w .1 .result .other .d) (w .4 .places) (set (w .4 .places) 3 (w .7 .result)) (w .7 .result) (w .5 .taken) refl (w .7 .ensures)))))
     (λ x. either x
-    (λ w. (subst (λ (m : List Place). Dealt (if4 .places) (if4 .on) (lowest .result) (edge-at .result) m) (sym (w .10)) (deals-four (if4 .places) (w .3 .places) (w .5 .places) (w .7 .places) (w .7 .places) (if4 .on) (lowest .result) (edge-at .result) (stood .size ∙ size) (w .2 .result) (w .4 .result) (w .6 .result) (w .8 .result) (w .2 .ensures) (w .4 .ensures) (w .6 .ensures) (w .8 .ensures) (w .1 .result) (w .1 .ensures)
+    (λ w. (subst (λ (m : List Place). Dealt (if4 .places) (if4 .on) (lowest .result) (edge-at .result) m) (sym (w .6)) (deals-four (if4 .places) (w .2 .places) (w .3 .places) (w .4 .places) (w .4 .places) (if4 .on) (lowest .result) (edge-at .result) (stood .size ∙ size) (w .1 .result) (w .1 .ensures)
+    (either (w .2 .came)
+    (λ z. turns-did (w .1 .result .covers .a) 0 (edge-at .result) (w .1 .result .own .a) (w .1 .result .other .a) (if4 .places) (w .2 .places) (z .2 .result) (z .0 .taken) (z .3) (z .2 .ensures))
+    (λ z. turns-not (w .1 .result .covers .a) 0 (edge-at .result) (w .1 .result .own .a) (w .1 .result .other .a) (if4 .places) (w .2 .places) (z .0 .left) (z .1)))
     (either (w .3 .came)
-    (λ z. turns-did (w .2 .result) 0 (edge-at .result) (w .1 .result .own .a) (w .1 .result .other .a) (if4 .places) (w .3 .places) (z .2 .result) (z .0 .taken) (z .3) (z .2 .ensures))
-    (λ z. turns-not (w .2 .result) 0 (edge-at .result) (w .1 .result .own .a) (w .1 .result .other .a) (if4 .places) (w .3 .places) (z .0 .left) (z .1)))
-    (either (w .5 .came)
-    (λ z. turns-did (w .4 .result) 1 (edge-at .result) (w .1 .result .own .b) (w .1 .result .other .b) (w .3 .places) (w .5 .places) (z .2 .result) (z .0 .taken) (z .3) (z .2 .ensures))
-    (λ z. turns-not (w .4 .result) 1 (edge-at .result) (w .1 .result .own .b) (w .1 .result .other .b) (w .3 .places) (w .5 .places) (z .0 .left) (z .1)))
-    (either (w .7 .came)
-    (λ z. turns-did (w .6 .result) 2 (edge-at .result) (w .1 .result .own .c) (w .1 .result .other .c) (w .5 .places) (w .7 .places) (z .2 .result) (z .0 .taken) (z .3) (z .2 .ensures))
-    (λ z. turns-not (w .6 .result) 2 (edge-at .result) (w .1 .result .own .c) (w .1 .result .other .c) (w .5 .places) (w .7 .places) (z .0 .left) (z .1)))
-    (turns-not (w .8 .result) 3 (edge-at .result) (w .1 .result .own .d) (w .1 .result .other .d) (w .7 .places) (w .7 .places) (w .9 .left) refl))))
+    (λ z. turns-did (w .1 .result .covers .b) 1 (edge-at .result) (w .1 .result .own .b) (w .1 .result .other .b) (w .2 .places) (w .3 .places) (z .2 .result) (z .0 .taken) (z .3) (z .2 .ensures))
+    (λ z. turns-not (w .1 .result .covers .b) 1 (edge-at .result) (w .1 .result .own .b) (w .1 .result .other .b) (w .2 .places) (w .3 .places) (z .0 .left) (z .1)))
+    (either (w .4 .came)
+    (λ z. turns-did (w .1 .result .covers .c) 2 (edge-at .result) (w .1 .result .own .c) (w .1 .result .other .c) (w .3 .places) (w .4 .places) (z .2 .result) (z .0 .taken) (z .3) (z .2 .ensures))
+    (λ z. turns-not (w .1 .result .covers .c) 2 (edge-at .result) (w .1 .result .own .c) (w .1 .result .other .c) (w .3 .places) (w .4 .places) (z .0 .left) (z .1)))
+    (turns-not (w .1 .result .covers .d) 3 (edge-at .result) (w .1 .result .own .d) (w .1 .result .other .d) (w .4 .places) (w .4 .places) (w .5 .left) refl))))
     (λ y. either y
     (λ w. (subst (λ (m : List Place). Dealt (if4 .places) (if4 .on) (lowest .result) (edge-at .result) m) (sym (w .8)) (deals-one (if4 .places) (if4 .on) (lowest .result) (edge-at .result) (stood .size ∙ size) (if4 .both) (w .1 .result) (w .4 .result) (marked .result) (w .2 .result) (w .6 .result) (w .7 .result) both (marked .ensures) (w .0 .left) (w .1 .ensures) (w .2 .ensures) (w .3 .taken) (w .4 .ensures .0) (w .6 .ensures) (w .7 .ensures))))
     (λ w. (subst (λ (m : List Place). Dealt (if4 .places) (if4 .on) (lowest .result) (edge-at .result) m) (sym (w .4)) (deals-none (if4 .places) (if4 .on) (lowest .result) (edge-at .result) (stood .size ∙ size) (w .1 .result) (w .2 .result) (w .1 .ensures) (w .2 .ensures) (w .3 .left)))))) in
@@ -958,27 +938,23 @@ work-spec =
     without-lowest-requires
     marked-requires
     agreement-of-requires
-    marked-requires-2
-    array-copy-out-q
+    array-copy-out-heard
     heard-requires
     array-set-from-places-2
-    marked-requires-3
-    array-copy-out-q-2
+    array-copy-out-heard-2
     heard-requires-2
     array-set-from-places-3
-    marked-requires-4
-    array-copy-out-q-3
+    array-copy-out-heard-3
     heard-requires-3
     array-set-from-places-4
-    marked-requires-5
-    array-copy-out-q-4
+    array-copy-out-heard-4
     heard-requires-4
     array-set-from-places-5
     any-word-requires
-    marked-requires-6
+    marked-requires-2
     which-requires
     mul-q
-    array-copy-out-q-5
+    array-copy-out-q
     speaks-requires
     heard-requires-5
     mul-places-2
