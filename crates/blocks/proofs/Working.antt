@@ -12,7 +12,7 @@ use Rattle.rules.specs.declared.Reply.{Reply}
 use Rattle.rules.specs.declared.Place.{Place}
 use Rattle.rules.specs.declared.Pulse.{Pulse}
 use Rattle.rules.specs.declared.Counts.{Counts}
-use Rattle.rules.specs.declared.Machine.{Machine}
+use Rattle.places.specs.Four.{Machine}
 use Rattle.rules.specs.declared.Bracket.{Bracket}
 use Rattle.rules.specs.declared.Bracket.the-variants.{Without, With}
 use Rattle.rules.specs.Settings.{standard}

@@ -6,7 +6,7 @@ use mathlib.Core.List.{List}
 use lib.ListN.{length, getD}
 use Rattle.rules.specs.declared.Place.{Place}
 use Rattle.rules.specs.declared.Counts.{Counts}
-use Rattle.rules.specs.declared.Machine.{Machine}
+use Rattle.places.specs.Four.{Machine}
 use Rattle.places.specs.Places.{idle}
 use Rattle.handing.specs.Post.{dueSlot, HandedPost}
 use Rattle.marking.specs.Marks.{withoutPlace}

@@ -40,6 +40,7 @@ use plane::lowest;
 use plane::marked;
 use plane::without_lowest;
 use processor::Progress;
+use processor::all_four;
 use rules::Place;
 use rules::Slot;
 use rules::Tick;
@@ -62,14 +63,6 @@ fn idle_place() -> Place
     ensures { λ r. ⌜ r ≡ idle ⌝ }
 {
     Place { slot: Slot::Idle }
-}
-
-// The four places, of which there are always four.
-fn all_four(p: [Place; 4]) -> [Place; 4]
-    ensures is { λ r. ⌜ r ≡ p ⌝ }
-    ensures four { λ r. ⌜ length r ≡ 4 ⌝ }
-{
-    p
 }
 
 // The progress after the flags of a piece, which begins once `base` ticks are taken. At each visit replies that are over are handed out, then the bracket is

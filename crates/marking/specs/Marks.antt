@@ -7,7 +7,7 @@ use lib.Dec.{eqb, ltb}
 use lib.ListN.{getD}
 use Rattle.rules.specs.declared.Reply.{Reply}
 use Rattle.rules.specs.declared.Place.{Place}
-use Rattle.rules.specs.declared.Places.{Places}
+use Rattle.places.specs.Four.{Places}
 use Rattle.rules.specs.Replies.{covers, isPhantom}
 use Rattle.plane.specs.Words.{bit}
 use Rattle.places.specs.Places.{test, idle, any3}

@@ -8,7 +8,7 @@ use Rattle.rules.specs.declared.Pulse.{Pulse}
 use Rattle.rules.specs.declared.Slot.{Slot}
 use Rattle.rules.specs.declared.Slot.the-variants.{Idle, Open}
 use Rattle.rules.specs.declared.Place.{Place}
-use Rattle.rules.specs.declared.Places.{Places}
+use Rattle.places.specs.Four.{Places}
 use Rattle.rules.specs.Settings.{Settings}
 use Rattle.rules.specs.Samples.{bit}
 use Rattle.rules.specs.Replies.{f1, position, isPosition, covers, agrees, speaks, verdict, bitOf, takes, heardAt, hear}

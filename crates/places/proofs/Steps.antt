@@ -8,7 +8,7 @@ use lib.Pow.{pow-mono}
 use Rattle.rules.specs.declared.Reply.{Reply}
 use Rattle.rules.specs.declared.Pulse.{Pulse}
 use Rattle.rules.specs.declared.Counts.{Counts}
-use Rattle.rules.specs.declared.Machine.{Machine}
+use Rattle.places.specs.Four.{Machine}
 use Rattle.rules.specs.declared.Estimate.the-variants.{Average}
 use Rattle.rules.specs.declared.Bracket.{Bracket}
 use Rattle.rules.specs.declared.Bracket.the-variants.{Without, With}

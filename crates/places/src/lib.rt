@@ -1,19 +1,18 @@
 // The four places in order of F1, the idle ones last, and the counts.
 ghost use mathlib.Core.Path.{_≡_};
 ghost use mathlib.Core.Bool.{_||_, cond};
+ghost use lib.ListN.{replicate};
 ghost use Rattle.replies.specs.Sums.{wrapped};
 ghost use Rattle.rules.specs.Machine.{start, openedBy, tally};
-ghost use Rattle.places.specs.Places.{any3 as any3′, noPlaces, machineOf};
+ghost use Rattle.places.specs.Places.{any3 as any3′, idle};
 use replies::pick;
 use replies::plus;
 use replies::wide;
 use rules::Counts;
 use rules::Estimate;
 use rules::Fate;
-use rules::Machine;
 use rules::Marks;
 use rules::Place;
-use rules::Places;
 use rules::Pulse;
 use rules::Reference;
 use rules::Reply;
@@ -34,15 +33,12 @@ pub fn any4(a: bool, b: bool, c: bool, d: bool) -> bool
     a | (b | (c | d))
 }
 
-fn no_places() -> Places
-    ensures { λ x. ⌜ x ≡ noPlaces ⌝ }
+// Four idle places.
+pub fn no_places() -> [Place; 4]
+    ensures { λ x. ⌜ x ≡ replicate 4 idle ⌝ }
 {
-    Places {
-        p0: Place { slot: Slot::Idle },
-        p1: Place { slot: Slot::Idle },
-        p2: Place { slot: Slot::Idle },
-        p3: Place { slot: Slot::Idle },
-    }
+    let none = Place { slot: Slot::Idle };
+    [none; 4]
 }
 
 // ---- brackets
@@ -141,22 +137,16 @@ pub fn tallied(fate: Fate, p: u16, c: Counts) -> Counts
     }
 }
 
-// ---- the machine
-
-// The machine with no open reply, and nothing counted.
-pub fn empty_machine() -> Machine
-    ensures { λ x. ⌜ x ≡ machineOf start ⌝ }
+// Nothing counted.
+pub fn no_counts() -> Counts
+    ensures { λ x. ⌜ x ≡ start .counts ⌝ }
 {
-    let places = no_places();
-    Machine {
-        places,
-        counts: Counts {
-            found: 0,
-            opened: 0,
-            sidelobe: 0,
-            garbled: 0,
-            lost: 0,
-            phantoms: 0,
-        },
+    Counts {
+        found: 0,
+        opened: 0,
+        sidelobe: 0,
+        garbled: 0,
+        lost: 0,
+        phantoms: 0,
     }
 }

@@ -1,26 +1,39 @@
 -- A processor with no tick taken; what the processor of a trace holds.
 use Prim.Native.Nat.{ℕ, _+_, _-_}
-use mathlib.Core.Path.{_≡_, ap}
-use mathlib.Core.List.{[]}
+use native.Mathlib.Omega.{arith}
+use mathlib.Core.Path.{_≡_, refl, sym, ap, _∙_}
+use mathlib.Core.List.{List, [], _∷_}
 use lib.ListN.{length, replicate}
-use Rattle.rules.specs.declared.Machine.{Machine}
+use Rattle.rules.specs.declared.Place.{Place}
+use Rattle.rules.specs.declared.Counts.{Counts}
 use Rattle.rules.specs.Settings.{standard}
 use Rattle.rules.specs.Samples.{Trace}
 use Rattle.rules.specs.Edges.{edgeAt}
 use Rattle.rules.specs.Machine.{start, after}
-use Rattle.places.specs.Places.{machineOf}
+use Rattle.places.specs.Places.{idle}
+use Rattle.marking.specs.Marks.{four}
 use Rattle.front.specs.declared.words.Front.{Front}
 use Rattle.front.specs.Words.{frontOf, recentOf}
 use Rattle.processor.specs.declared.Processor.{Processor}
-use Rattle.processor.specs.State.{runningProcessor, idleProcessor}
+use Rattle.processor.specs.Arrays.{listed, machineIn}
+use Rattle.processor.specs.State.{machineAfter, runningProcessor, idleProcessor}
+
+-- four places are those that their names name
+pub all-listed : (l : List Place) → length l ≡ 4 → l ≡ listed (four l)
+all-listed (w ∷ x ∷ y ∷ z ∷ []) s = refl
+all-listed [] s = absurd (omega arith)
+all-listed (w ∷ []) s = absurd (omega arith)
+all-listed (w ∷ x ∷ []) s = absurd (omega arith)
+all-listed (w ∷ x ∷ y ∷ []) s = absurd (omega arith)
+all-listed (w ∷ x ∷ y ∷ z ∷ t ∷ l) s = absurd (omega arith)
 
 abbrev nothing : Trace
 nothing = record { flags = []; values = [] }
 
-pub begun-law : (f : Front) (m : Machine) → f ≡ frontOf [] → m ≡ machineOf start → (mode azimuth : ℕ)
-    → record { mode = mode; azimuth = azimuth; taken = 0; front = f; recent = replicate 256 0; machine = m } ≡ runningProcessor mode azimuth nothing
+pub begun-law : (f : Front) (l : List Place) (c : Counts) → f ≡ frontOf [] → l ≡ replicate 4 idle → c ≡ start .counts → (mode azimuth : ℕ)
+    → record { mode = mode; azimuth = azimuth; taken = 0; front = f; recent = replicate 256 0; places = l; counts = c } ≡ runningProcessor mode azimuth nothing
 unfolding runningProcessor recentOf after
-begun-law f m ef em mode azimuth = λ i. record { mode = mode; azimuth = azimuth; taken = 0; front = ef i; recent = replicate 256 0; machine = em i }
+begun-law f l c ef el ec mode azimuth = λ i. record { mode = mode; azimuth = azimuth; taken = 0; front = ef i; recent = replicate 256 0; places = el i; counts = ec i }
 
 pub idle-law : (p : Processor) → p ≡ runningProcessor 0 0 nothing → p ≡ idleProcessor
 unfolding idleProcessor
@@ -47,6 +60,14 @@ module _ (mode azimuth : ℕ) (T : Trace) (p : Processor) (e : p ≡ runningProc
   unfolding runningProcessor
   recent-of = ap (λ (q : Processor). q .recent) e
 
-  pub machine-of : p .machine ≡ machineOf (after _+_ standard (edgeAt standard T) (length (T .flags) - 178))
+  pub machine-of : machineIn (p .places) (p .counts) ≡ machineAfter T
   unfolding runningProcessor
-  machine-of = ap (λ (q : Processor). q .machine) e
+  machine-of = ap (λ (q : Processor). machineIn (q .places) (q .counts)) e
+
+  pub places-of : p .places ≡ listed (machineAfter T .places)
+  unfolding runningProcessor
+  places-of = ap (λ (q : Processor). q .places) e
+
+  -- the places of a processor are four
+  pub four-of : p .places ≡ listed (four (p .places))
+  four-of = places-of ∙ sym (ap (λ (l : List Place). listed (four l)) places-of)

@@ -2,9 +2,8 @@
 use Prim.Native.Nat.{ℕ}
 use mathlib.Core.List.{List, [], _∷_}
 use Rattle.rules.specs.declared.Place.{Place}
-use Rattle.rules.specs.declared.Places.{Places}
+use Rattle.places.specs.Four.{Places, Machine}
 use Rattle.rules.specs.declared.Counts.{Counts}
-use Rattle.rules.specs.declared.Machine.{Machine}
 use Rattle.marking.specs.Marks.{four}
 use Rattle.processor.specs.declared.Processor.{Processor}
 use Rattle.processor.specs.declared.Progress.{Progress}
@@ -23,8 +22,8 @@ machineAt y = machineIn (y .places) (y .counts)
 
 -- where a piece, or the zeros past the end, begin: at the start of a buffer
 abbrev pub progressOf : Processor → Progress
-progressOf p = record { front = p .front; places = listed (p .machine .places); counts = p .machine .counts; at = 0 }
+progressOf p = record { front = p .front; places = p .places; counts = p .counts; at = 0 }
 
 -- the processor that p has become after n ticks
 abbrev pub processorAt : Processor → Progress → List ℕ → ℕ → Processor
-processorAt p y recent n = record { mode = p .mode; azimuth = p .azimuth; taken = n; front = y .front; recent = recent; machine = machineAt y }
+processorAt p y recent n = record { mode = p .mode; azimuth = p .azimuth; taken = n; front = y .front; recent = recent; places = listed (four (y .places)); counts = y .counts }

@@ -1,3 +1,3 @@
 -- The processor between calls.
-pub mod State
 pub mod Arrays
+pub mod State

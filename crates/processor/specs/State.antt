@@ -9,8 +9,10 @@ use Rattle.rules.specs.Lists.{All}
 use Rattle.rules.specs.Samples.{Trace, sweepLimit}
 use Rattle.rules.specs.Edges.{edgeAt}
 use Rattle.rules.specs.Machine.{after}
+use Rattle.places.specs.Four.{Machine}
 use Rattle.places.specs.Places.{machineOf}
 use Rattle.processor.specs.declared.Processor.{Processor}
+use Rattle.processor.specs.Arrays.{listed}
 use Rattle.front.specs.Words.{frontOf, recentOf}
 
 -- ---- the processor
@@ -19,6 +21,10 @@ use Rattle.front.specs.Words.{frontOf, recentOf}
 pub data Sweep : Type 0 where
   none : Sweep
   running : ℕ → ℕ → Trace → Sweep
+
+-- the machine after those ticks of a trace that no later sample changes
+abbrev pub machineAfter : Trace → Machine
+machineAfter T = machineOf (after _+_ standard (edgeAt standard T) (length (T .flags) - 178))
 
 unfoldable pub runningProcessor : ℕ → ℕ → Trace → Processor
 unfolding frontOf recentOf
@@ -29,7 +35,8 @@ runningProcessor mode azimuth T =
       taken = length (T .flags);
       front = frontOf (T .flags);
       recent = recentOf (T .values);
-      machine = machineOf (after _+_ standard (edgeAt standard T) (length (T .flags) - 178));
+      places = listed (machineAfter T .places);
+      counts = machineAfter T .counts;
     }
 
 -- "the idle processor, one fixed value with no sweep open, which also stands before the first opening"

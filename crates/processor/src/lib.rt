@@ -1,24 +1,27 @@
-// The processor between calls, and a piece on its way through it: the four places as an array that the machine works on, and back.
+// The processor between calls, and a piece on its way through it.
 ghost use mathlib.Core.Path.{_≡_};
 ghost use mathlib.Core.List.{[]};
+ghost use lib.ListN.{length};
+ghost use Rattle.marking.specs.Marks.{four};
 ghost use Rattle.processor.specs.State.{idleProcessor, runningProcessor};
-ghost use Rattle.processor.specs.Arrays.{listed, machineIn, progressOf, processorAt};
+ghost use Rattle.processor.specs.Arrays.{listed, progressOf, processorAt};
 use front::words::Front;
 use front::words::no_front;
-use places::empty_machine;
+use places::no_counts;
+use places::no_places;
 use rules::Counts;
-use rules::Machine;
 use rules::Place;
-use rules::Places;
 
-// Mode 0: no sweep is open. `recent` holds the values of the last 256 ticks, the newest last.
+// Mode 0: no sweep is open. `recent` holds the values of the last 256 ticks, the newest last. The open replies stand in the four places in order of F1, then
+// come the idle places.
 pub struct Processor {
     pub mode: u8,
     pub azimuth: u16,
     pub taken: u32,
     pub front: Front,
     pub recent: [u8; 256],
-    pub machine: Machine,
+    pub places: [Place; 4],
+    pub counts: Counts,
 }
 
 // The processor of a sweep with no tick taken.
@@ -31,7 +34,8 @@ pub fn begun(mode: u8, azimuth: u16) -> Processor
         taken: 0,
         front: no_front(),
         recent: [0u8; 256],
-        machine: empty_machine(),
+        places: no_places(),
+        counts: no_counts(),
     }
 }
 
@@ -50,30 +54,13 @@ pub struct Progress {
     pub at: usize,
 }
 
-// The four places as an array, which the machine works on.
-fn array_of(p: Places) -> [Place; 4]
-    ensures { λ r. ⌜ r ≡ listed p ⌝ }
+// The four places, of which there are always four.
+pub fn all_four(p: [Place; 4]) -> [Place; 4]
+    ensures is { λ r. ⌜ r ≡ p ⌝ }
+    ensures size { λ r. ⌜ length r ≡ 4 ⌝ }
+    ensures named { λ r. ⌜ r ≡ listed (four p) ⌝ }
 {
-    let p0 = p.p0;
-    let p1 = p.p1;
-    let p2 = p.p2;
-    let p3 = p.p3;
-    [p0, p1, p2, p3]
-}
-
-// The machine with these places and counts, which is kept between calls.
-fn machine_of(p: [Place; 4], counts: Counts) -> Machine
-    ensures { λ m. ⌜ m ≡ machineIn p counts ⌝ }
-{
-    Machine {
-        places: Places {
-            p0: p[0],
-            p1: p[1],
-            p2: p[2],
-            p3: p[3],
-        },
-        counts,
-    }
+    p
 }
 
 // Where a piece, or the zeros past the end, begin: at the start of a buffer.
@@ -81,9 +68,8 @@ pub fn progress_of(p: Processor) -> Progress
     ensures { λ r. ⌜ r ≡ progressOf p ⌝ }
 {
     let front = p.front;
-    let machine = p.machine;
-    let counts = machine.counts;
-    let places = array_of(machine.places);
+    let places = p.places;
+    let counts = p.counts;
     Progress {
         front,
         places,
@@ -105,6 +91,7 @@ pub fn moved(p: Processor, y: Progress, recent: [u8; 256], taken: u32) -> Proces
         taken,
         front,
         recent,
-        machine: machine_of(places, counts),
+        places: all_four(places),
+        counts,
     }
 }

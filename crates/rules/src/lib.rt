@@ -52,14 +52,6 @@ pub struct Place {
     pub slot: Slot,
 }
 
-// The four decoders: the open replies in order of F1, then the idle ones.
-pub struct Places {
-    pub p0: Place,
-    pub p1: Place,
-    pub p2: Place,
-    pub p3: Place,
-}
-
 // Brackets found, and what became of them: replies opened, sidelobe, garbled, lost. Of the replies opened, phantoms were removed.
 pub struct Counts {
     pub found: u16,
@@ -68,11 +60,6 @@ pub struct Counts {
     pub garbled: u16,
     pub lost: u16,
     pub phantoms: u16,
-}
-
-pub struct Machine {
-    pub places: Places,
-    pub counts: Counts,
 }
 
 // An edge as the machine takes it: its tick, its M and its value.

@@ -10,7 +10,7 @@ use lib.ListN.{length, getD, replicate, length-append, length-replicate}
 use borrow.Author.Tests.{lt-ltb, le-ltb, ltb-false}
 use Rattle.rules.specs.declared.Reply.{Reply}
 use Rattle.rules.specs.declared.Counts.{Counts}
-use Rattle.rules.specs.declared.Machine.{Machine}
+use Rattle.places.specs.Four.{Machine}
 use Rattle.rules.specs.declared.Totals.{Totals}
 use Rattle.rules.specs.Settings.{standard}
 use Rattle.rules.specs.Lists.{All}
@@ -28,7 +28,8 @@ use Rattle.sweep.specs.declared.Closed.{Closed}
 use Rattle.processor.specs.declared.Progress.{Progress}
 use Rattle.processor.specs.State.{Sweep, none, running, idleProcessor, runningProcessor, processorOf, Within, Made}
 use Rattle.sweep.specs.Post.{takeAnswerAt, takeAs, takeBufferAs, TakePost, closeAnswerAt, closeAs, closeBufferAs, noTotals, ClosePost, totalsFrom}
-use Rattle.processor.specs.Arrays.{progressOf, machineAt}
+use Rattle.marking.specs.Marks.{four}
+use Rattle.processor.specs.Arrays.{listed, progressOf, machineAt}
 use Rattle.processor.proofs.ProcessorLaws.{mode-of, azimuth-of, taken-of, front-of, recent-of, machine-of}
 use Rattle.blocks.specs.Steps.{stateAt, Fed}
 use Rattle.pieces.specs.Feeding.{FeedPost, DrainPost}
@@ -120,7 +121,7 @@ module _ (p : Processor) (flags values b : List ℕ) (is-accepted : takeAnswer (
   result =
       record {
         answer = Accepted (y .at / 18);
-        processor = record { mode = p .mode; azimuth = p .azimuth; taken = p .taken + length flags; front = y .front; recent = recent′; machine = machineAt y };
+        processor = record { mode = p .mode; azimuth = p .azimuth; taken = p .taken + length flags; front = y .front; recent = recent′; places = listed (four (y .places)); counts = y .counts };
       }
 
   module _ (m azimuth : ℕ) (T : Trace) (is : p ≡ runningProcessor m azimuth T) (w : Within m T) where
@@ -152,7 +153,7 @@ module _ (p : Processor) (flags values b : List ℕ) (is-accepted : takeAnswer (
         let e4 = fed .front in
         let e5 = kp .result (T .values) (recent-of m azimuth T p is) in
         let e6 = fed .machine in
-        λ i. record { answer = Accepted (c i); processor = record { mode = e1 i; azimuth = e2 i; taken = e3 i; front = e4 i; recent = e5 i; machine = e6 i } }
+        λ i. record { answer = Accepted (c i); processor = record { mode = e1 i; azimuth = e2 i; taken = e3 i; front = e4 i; recent = e5 i; places = listed (e6 i .places); counts = e6 i .counts } }
 
   accepts : (σ : Sweep) → Made σ p → takeAnswerAt σ (record { flags = flags; values = values }) (length b) ≡ accepted
   accepts σ q = take-answer-at p (record { flags = flags; values = values }) (length b) σ q ∙ is-accepted

@@ -25,16 +25,17 @@ use Rattle.processor.specs.declared.Progress.{Progress}
 use Rattle.processor.specs.State.{running, runningProcessor, processorOf, Made}
 use Rattle.front.specs.Words.{recentOf}
 use Rattle.front.specs.Post.{blank}
+use Rattle.places.specs.Four.{Machine}
 use Rattle.places.specs.Places.{idle}
 use Rattle.blocks.specs.Steps.{noneDue, Fed, quiet}
 use Rattle.blocks.specs.Feeding.{BlocksPost}
 use Rattle.sweep.specs.Post.{Rests}
-use Rattle.processor.specs.Arrays.{progressOf}
+use Rattle.processor.specs.Arrays.{listed, progressOf}
 use Rattle.blocks.proofs.Quiet.{Quiet, quiet-is}
 use Rattle.blocks.proofs.Blank.{none-due-before, stays-law}
 use Rattle.blocks.proofs.Feeding.{Feeding, feed-start, feed-next, feed-end}
 use Rattle.pieces.proofs.Pieces.{enters-piece}
-use Rattle.processor.proofs.ProcessorLaws.{mode-of, azimuth-of, taken-of, front-of, recent-of, machine-of}
+use Rattle.processor.proofs.ProcessorLaws.{mode-of, azimuth-of, taken-of, front-of, recent-of, machine-of, four-of}
 
 -- ---- one tick
 
@@ -80,7 +81,7 @@ no-replies : (l : List Reply) → 0 ≡ 18 * length l → l ≡ []
 no-replies [] e = refl
 no-replies (r ∷ l) e = absurd (omega arith)
 
-module _ (p : Processor) (flags : List ℕ) (q : Quiet (p .front) (p .machine .places .p0) (p .taken) flags) (mode azimuth : ℕ) (T : Trace) (values : List ℕ)
+module _ (p : Processor) (flags : List ℕ) (q : Quiet (p .front) (getD (p .places) 0 idle) (p .taken) flags) (mode azimuth : ℕ) (T : Trace) (values : List ℕ)
     (made : Made (running mode azimuth T) p) (alike : length flags ≡ length values) (bytes : All (λ v. v ≤ 255) values) where
   made-as : p ≡ runningProcessor mode azimuth T
   unfolding processorOf
@@ -118,18 +119,19 @@ module _ (p : Processor) (flags : List ℕ) (q : Quiet (p .front) (p .machine .p
       let e2 = azimuth-of mode azimuth T p made-as in
       let e3 : p .taken + length flags ≡ length (T .flags ++ flags) = omega (arith, taken-of mode azimuth T p made-as, length-append (T .flags) flags) in
       let e4 = fed .front in
-      let e6 = fed .machine in
+      let e6 = four-of mode azimuth T p made-as ∙ ap (λ (z : Machine). listed (z .places)) (fed .machine) in
+      let e7 = ap (λ (z : Machine). z .counts) (fed .machine) in
       record {
         none-due = no-replies (fresh standard T (record { flags = flags; values = values })) (fed .place);
-        processor = λ i. record { mode = e1 i; azimuth = e2 i; taken = e3 i; front = e4 i; recent = recentOf (T .values ++ values); machine = e6 i };
+        processor = λ i. record { mode = e1 i; azimuth = e2 i; taken = e3 i; front = e4 i; recent = recentOf (T .values ++ values); places = e6 i; counts = e7 i };
       }
 
 -- every piece of quiet flags is such a piece for a processor with these words, this first place, and so many ticks taken
 pub quiet-rests : (f : Front) (first : Place) (base : ℕ) (flags : List ℕ) → quiet f first base flags ≡ true
-    → (p : Processor) → p .front ≡ f → p .machine .places .p0 ≡ first → p .taken ≡ base
+    → (p : Processor) → p .front ≡ f → getD (p .places) 0 idle ≡ first → p .taken ≡ base
     → (mode azimuth : ℕ) (T : Trace) (values : List ℕ) → Made (running mode azimuth T) p → length flags ≡ length values → All (λ v. v ≤ 255) values
     → Rests p mode azimuth T (record { flags = flags; values = values })
 quiet-rests f first base flags is p words place ticks =
     rests p flags
-    (subst (λ (g : Front). Quiet g (p .machine .places .p0) (p .taken) flags) (sym words)
+    (subst (λ (g : Front). Quiet g (getD (p .places) 0 idle) (p .taken) flags) (sym words)
     (subst (λ (x : Place). Quiet f x (p .taken) flags) (sym place) (subst (λ (t : ℕ). Quiet f first t flags) (sym ticks) (quiet-is f first base flags is))))

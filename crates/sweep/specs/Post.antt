@@ -66,7 +66,7 @@ pub record TakePost (p : Processor) (P : Trace) (b : List ℕ) (r : Taken) (b′
 -- the piece P behind the trace T hands out nothing, and leaves all but the count of ticks and the kept values as it is
 pub record Rests (p : Processor) (mode azimuth : ℕ) (T P : Trace) : Type 0 where
   pub none-due : fresh standard T P ≡ []
-  pub processor : record { mode = p .mode; azimuth = p .azimuth; taken = p .taken + length (P .flags); front = p .front; recent = recentOf (T .values ++ P .values); machine = p .machine }
+  pub processor : record { mode = p .mode; azimuth = p .azimuth; taken = p .taken + length (P .flags); front = p .front; recent = recentOf (T .values ++ P .values); places = p .places; counts = p .counts }
       ≡ runningProcessor mode azimuth (T ⧺ P)
 
 -- ---- close

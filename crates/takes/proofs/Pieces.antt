@@ -23,7 +23,8 @@ use Rattle.processor.specs.State.{running, runningProcessor, processorOf, Made}
 use Rattle.sweep.specs.Post.{takeAnswerAt}
 use Rattle.blocks.specs.Steps.{quiet, Fed}
 use Rattle.places.specs.Places.{idle}
-use Rattle.processor.specs.Arrays.{machineAt, processorAt}
+use Rattle.marking.specs.Marks.{four}
+use Rattle.processor.specs.Arrays.{listed, processorAt}
 use Rattle.pieces.specs.Feeding.{Begins, FeedPost}
 use Rattle.front.specs.Post.{KeepPost}
 use Rattle.rules.proofs.Answers.{took}
@@ -127,7 +128,7 @@ module _ (p : Processor) (o : Progress) (recent : List ℕ) (base : ℕ) (P : Tr
               let e5 = keeps .result (T .values) (recent-of mode azimuth T q is) in
               let e6 = f .machine in
               record {
-                processor = λ i. record { mode = e1 i; azimuth = e2 i; taken = e3 i; front = e4 i; recent = e5 i; machine = e6 i };
+                processor = λ i. record { mode = e1 i; azimuth = e2 i; taken = e3 i; front = e4 i; recent = e5 i; places = listed (e6 i .places); counts = e6 i .counts };
                 place = omega (arith, e, f .place, few T g);
                 buffer = whole-is T g;
               };
@@ -144,7 +145,7 @@ module _ (p : Processor) (o : Progress) (recent : List ℕ) (base : ℕ) (P : Tr
             let w = quiet-rests (o .front) (getD (o .places) 0 idle) base (P .flags) is q refl refl refl mode azimuth T (P .values) m alike bytes in
             let k = keeps .result (T .values) (recent-of mode azimuth T q (m .is)) in
             record {
-              processor = (λ i. record { mode = p .mode; azimuth = p .azimuth; taken = ticks i; front = o .front; recent = k i; machine = machineAt o }) ∙ w .processor;
+              processor = (λ i. record { mode = p .mode; azimuth = p .azimuth; taken = ticks i; front = o .front; recent = k i; places = listed (four (o .places)); counts = o .counts }) ∙ w .processor;
               place = omega (arith, ap length (w .none-due));
               buffer = sym (ap (λ (l : List Reply). over-at (records l) at b) (w .none-due) ∙ over-nil at b);
             };

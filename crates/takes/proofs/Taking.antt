@@ -23,7 +23,7 @@ use Rattle.rules.proofs.HandingOut.{fresh-most}
 use Rattle.processor.specs.declared.Processor.{Processor}
 use Rattle.places.specs.Places.{idle}
 use Rattle.processor.specs.declared.Progress.{Progress}
-use Rattle.processor.specs.Arrays.{machineAt, processorAt, progressOf}
+use Rattle.processor.specs.Arrays.{listed, machineAt, processorAt, progressOf}
 use Rattle.processor.specs.State.{running, runningProcessor, processorOf, Made}
 use Rattle.sweep.specs.Post.{takeAnswerAt}
 use Rattle.blocks.specs.Steps.{quiet}
@@ -136,7 +136,7 @@ module _ (p : Processor) (T : Trace) (piece : ℕ) (b₀ : List ℕ) (alike : le
             let e5 = recent-of mode azimuth nothing p e in
             let e6 = ap machineAt is ∙ machine-of mode azimuth nothing p e in
             record {
-              processor = λ i. record { mode = e1 i; azimuth = e2 i; taken = 0; front = e4 i; recent = e5 i; machine = e6 i };
+              processor = λ i. record { mode = e1 i; azimuth = e2 i; taken = 0; front = e4 i; recent = e5 i; places = listed (e6 i .places); counts = e6 i .counts };
               place = omega (arith, ap length none-due);
               buffer = ap (λ (l : List Reply). over (records l) b₀) (sym none-due);
             };

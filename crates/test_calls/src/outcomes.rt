@@ -4,9 +4,7 @@ use front::words::Front;
 use processor::Processor;
 use rules::Counts;
 use rules::Estimate;
-use rules::Machine;
 use rules::Place;
-use rules::Places;
 use rules::Reply;
 use rules::Slot;
 use rules::Totals;
@@ -163,13 +161,13 @@ fn put_place(out: &mut [u8], at: usize, p: Place)
     }
 }
 
-fn put_places(out: &mut [u8], f: Places)
+fn put_places(out: &mut [u8], p: [Place; 4])
     requires { ⌜ 968 ≤ length (now out) ⌝ }
 {
-    put_place(out, 504, f.p0);
-    put_place(out, 608, f.p1);
-    put_place(out, 712, f.p2);
-    put_place(out, 816, f.p3);
+    put_place(out, 504, p[0]);
+    put_place(out, 608, p[1]);
+    put_place(out, 712, p[2]);
+    put_place(out, 816, p[3]);
 }
 
 fn put_counts(out: &mut [u8], c: Counts)
@@ -186,13 +184,6 @@ fn put_counts(out: &mut [u8], c: Counts)
     put_all(out, 920, &numbers);
 }
 
-fn put_machine(out: &mut [u8], m: Machine)
-    requires { ⌜ 968 ≤ length (now out) ⌝ }
-{
-    put_places(out, m.places);
-    put_counts(out, m.counts);
-}
-
 fn put_settings(out: &mut [u8], mode: u8, azimuth: u16, taken: u32)
     requires { ⌜ 968 ≤ length (now out) ⌝ }
 {
@@ -207,5 +198,7 @@ pub fn put_processor(out: &mut [u8], p: Processor)
     put_front(out, p.front);
     let recent = p.recent;
     put_recent(out, recent);
-    put_machine(out, p.machine);
+    let places = p.places;
+    put_places(out, places);
+    put_counts(out, p.counts);
 }

@@ -6,10 +6,8 @@ use libc::STDOUT_FILENO;
 use processor::Processor;
 use rules::Counts;
 use rules::Estimate;
-use rules::Machine;
 use rules::Marks;
 use rules::Place;
-use rules::Places;
 use rules::Reference;
 use rules::Reply;
 use rules::Slot;
@@ -108,15 +106,8 @@ fn same_counts(a: Counts, b: Counts) -> bool {
         & (a.phantoms == b.phantoms)
 }
 
-fn same_places(a: Places, b: Places) -> bool {
-    same_place(a.p0, b.p0)
-        & same_place(a.p1, b.p1)
-        & same_place(a.p2, b.p2)
-        & same_place(a.p3, b.p3)
-}
-
-fn same_machine(a: Machine, b: Machine) -> bool {
-    same_places(a.places, b.places) & same_counts(a.counts, b.counts)
+fn same_places(a: [Place; 4], b: [Place; 4]) -> bool {
+    same_place(a[0], b[0]) & same_place(a[1], b[1]) & same_place(a[2], b[2]) & same_place(a[3], b[3])
 }
 
 fn same_values(a: [u8; 256], b: [u8; 256]) -> bool {
@@ -126,8 +117,10 @@ fn same_values(a: [u8; 256], b: [u8; 256]) -> bool {
 fn same_processor(a: Processor, b: Processor) -> bool {
     let r = a.recent;
     let s = b.recent;
+    let x = a.places;
+    let y = b.places;
     let settings = (a.mode == b.mode) & (a.azimuth == b.azimuth) & (a.taken == b.taken);
-    settings & same_front(a.front, b.front) & same_values(r, s) & same_machine(a.machine, b.machine)
+    settings & same_front(a.front, b.front) & same_values(r, s) & same_places(x, y) & same_counts(a.counts, b.counts)
 }
 
 // ---- how a sweep ends

@@ -62,7 +62,7 @@ loop-holds : tie.Need-loop-holds Inv-loop2 μ-loop2 Inv-loop3 μ-loop3 Inv-loop 
 loop-holds c =
     let all-four = c .before .all-four in
     let args = c .before .before .before .before .before .before .before .args in (
-      all-four .ensures .1,
+      all-four .ensures .1 .0,
       feed-start (record { front = args .o .front; places = all-four .result; counts = args .o .counts; at = args .o .at }) (args .recent .now) (args .base) (args .flags .now) (args .values .now) (args .out .now),
     )
 

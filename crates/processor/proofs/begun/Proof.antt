@@ -6,13 +6,16 @@ use Rattle.processor.proofs.begun.Tie as tie
 no-front-requires : tie.Need-no-front-requires
 no-front-requires c κs = search needs
 
-empty-machine-requires : tie.Need-empty-machine-requires
-empty-machine-requires c κs = search needs
+no-places-requires : tie.Need-no-places-requires
+no-places-requires c κs = search needs
+
+no-counts-requires : tie.Need-no-counts-requires
+no-counts-requires c κs = search needs
 
 returns : tie.Need-returns
 returns c =
-    let a = c .before .before .args in
-    begun-law _ _ (c .before .no-front .ensures) (c .empty-machine .ensures) (a .mode) (a .azimuth)
+    let a = c .before .before .before .args in
+    begun-law _ _ _ (c .before .before .no-front .ensures) (c .before .no-places .ensures) (c .no-counts .ensures) (a .mode) (a .azimuth)
 
 pub begun-spec : {M : Type 1} → statement M
-begun-spec = tie.close (tie.spec no-front-requires empty-machine-requires returns)
+begun-spec = tie.close (tie.spec no-front-requires no-places-requires no-counts-requires returns)

@@ -3,14 +3,14 @@ use borrow.Author.Needs.{needs}
 use Rattle.processor.proofs.moved.Statement.{statement}
 use Rattle.processor.proofs.moved.Tie as tie
 
-machine-of-requires : tie.Need-machine-of-requires
-machine-of-requires c κs = search needs
+all-four-requires : tie.Need-all-four-requires
+all-four-requires c κs = search needs
 
 returns : tie.Need-returns
 returns c =
     let a = c .before .before .before .before .args in
     let p = a .p in
-    λ i. record { mode = p .mode; azimuth = p .azimuth; taken = a .taken; front = a .y .front; recent = a .recent; machine = c .machine-of .ensures i }
+    λ i. record { mode = p .mode; azimuth = p .azimuth; taken = a .taken; front = a .y .front; recent = a .recent; places = c .all-four .ensures .1 .1 i; counts = a .y .counts }
 
 pub moved-spec : {M : Type 1} → statement M
-moved-spec = tie.close (tie.spec machine-of-requires returns)
+moved-spec = tie.close (tie.spec all-four-requires returns)
