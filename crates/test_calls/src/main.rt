@@ -13,19 +13,28 @@
 //   11  where a take's values start in theirs (2), 13 how many (2)
 //   15  length of the lent buffer, up to 2,048 (2); an open is lent none
 //
-// An outcome is 968 bytes (crates/test_outcomes), and behind them the lent buffer as the call left it. A processor that is not shown is 904 bytes of the
-// buffer's filling. A refused opening leaves the processor that there was.
+// An outcome is 968 bytes, and behind them the lent buffer as the call left it. But for `recent`, 8 bytes a number:
+//    0  1 accepted, with the count at 8, or 2 refused, with the refusal number at 8
+//   16  a close's six totals, in document 01's order, or zeros
+//   64  the processor after the call: mode, azimuth, taken, and at 88 the 20 words of its front, as they are declared
+//  248  recent, 256 bytes
+//  504  the four places, 104 bytes each: 1 open, with F1, the four marks, settled, code, unsure, 0 lone or 1 average, the bits of the
+//       reference, N and S, or zeros
+//  920  the counts: found, opened, sidelobe, garbled, lost, phantoms
+// A processor that is not shown is 904 bytes of the buffer's filling. A refused opening leaves the processor that there was.
+mod outcomes;
+
 use libc::STDERR_FILENO;
 use libc::STDIN_FILENO;
 use libc::STDOUT_FILENO;
+use outcomes::put_answer;
+use outcomes::put_processor;
+use outcomes::put_totals;
 use processor::Processor;
 use rules::Totals;
 use sweep::Answer;
 use sweep::Closed;
 use sweep::Taken;
-use test_outcomes::put_answer;
-use test_outcomes::put_processor;
-use test_outcomes::put_totals;
 ghost use Prim.Native.Nat.{_≤_};
 ghost use lib.ListN.{length};
 

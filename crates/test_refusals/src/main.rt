@@ -1,13 +1,21 @@
 // Every refusal of open, take and close, alone and with later ones that hold too. A line for each says the answer; for a refusal, whether the
 // lent buffer, the processor and the end of the sweep are those without the call; for a call carried out, whether the rest of the buffer stays.
 use check::same;
+use front::words::Front;
 use libc::STDOUT_FILENO;
 use processor::Processor;
+use rules::Counts;
+use rules::Estimate;
+use rules::Marks;
+use rules::Place;
+use rules::Reference;
+use rules::Reply;
+use rules::Slot;
 use rules::Totals;
+use rules::Word;
 use sweep::Answer;
 use sweep::Closed;
 use sweep::Taken;
-use test_outcomes::put_processor;
 ghost use Prim.Native.Nat.{_≤_, _<_};
 ghost use lib.ListN.{length};
 
@@ -19,13 +27,100 @@ const AT: usize = 800;
 
 // ---- whether two processors are the same
 
-// By the bytes that test_calls writes of each, which are compared with the model's.
+fn same_front(a: Front, b: Front) -> bool {
+    let flags = (a.a == b.a)
+        & (a.a1 == b.a1)
+        & (a.p == b.p)
+        & (a.p1 == b.p1)
+        & (a.n == b.n)
+        & (a.n1 == b.n1);
+    let runs = (a.l == b.l)
+        & (a.l1 == b.l1)
+        & (a.k == b.k)
+        & (a.k1 == b.k1)
+        & (a.h == b.h)
+        & (a.h1 == b.h1);
+    let edges = (a.e == b.e) & (a.e1 == b.e1) & (a.e2 == b.e2) & (a.e3 == b.e3);
+    let mainbeam = (a.m == b.m) & (a.m1 == b.m1) & (a.m2 == b.m2) & (a.m3 == b.m3);
+    flags & runs & edges & mainbeam
+}
+
+fn same_marks(a: Marks, b: Marks) -> bool {
+    (a.suspect == b.suspect)
+        & (a.military == b.military)
+        & (a.second == b.second)
+        & (a.main == b.main)
+}
+
+fn same_word(a: Word, b: Word) -> bool {
+    (a.settled == b.settled) & (a.code == b.code) & (a.unsure == b.unsure)
+}
+
+// The reference, with a lone pulse's told from an average: neither is above 255.
+fn level(e: Estimate) -> f64 {
+    match e {
+        Estimate::Lone(x) => x + 1000.0,
+        Estimate::Average(x) => x,
+    }
+}
+
+fn same_reference(a: Reference, b: Reference) -> bool {
+    let x = a.estimate;
+    let y = b.estimate;
+    (level(x) == level(y)) & (a.n == b.n) & (a.s == b.s)
+}
+
+fn same_reply(a: Reply, b: Reply) -> bool {
+    let q = a.f1;
+    let r = b.f1;
+    let m = a.marks;
+    let n = b.marks;
+    let v = a.word;
+    let w = b.word;
+    let x = a.reference;
+    let y = b.reference;
+    (q.0 == r.0) & same_marks(m, n) & same_word(v, w) & same_reference(x, y)
+}
+
+fn same_place(a: Place, b: Place) -> bool {
+    let s = a.slot;
+    let t = b.slot;
+    match s {
+        Slot::Idle => match t {
+            Slot::Idle => true,
+            Slot::Open(_) => false,
+        },
+        Slot::Open(x) => match t {
+            Slot::Idle => false,
+            Slot::Open(y) => same_reply(x, y),
+        },
+    }
+}
+
+fn same_counts(a: Counts, b: Counts) -> bool {
+    (a.found == b.found)
+        & (a.opened == b.opened)
+        & (a.sidelobe == b.sidelobe)
+        & (a.garbled == b.garbled)
+        & (a.lost == b.lost)
+        & (a.phantoms == b.phantoms)
+}
+
+fn same_places(a: [Place; 4], b: [Place; 4]) -> bool {
+    same_place(a[0], b[0]) & same_place(a[1], b[1]) & same_place(a[2], b[2]) & same_place(a[3], b[3])
+}
+
+fn same_values(a: [u8; 256], b: [u8; 256]) -> bool {
+    same(&a, &b)
+}
+
 fn same_processor(a: Processor, b: Processor) -> bool {
-    let mut x = [0u8; 968];
-    let mut y = [0u8; 968];
-    put_processor(&mut x, a);
-    put_processor(&mut y, b);
-    same(&x, &y)
+    let r = a.recent;
+    let s = b.recent;
+    let x = a.places;
+    let y = b.places;
+    let settings = (a.mode == b.mode) & (a.azimuth == b.azimuth) & (a.taken == b.taken);
+    settings & same_front(a.front, b.front) & same_values(r, s) & same_places(x, y) & same_counts(a.counts, b.counts)
 }
 
 // ---- how a sweep ends

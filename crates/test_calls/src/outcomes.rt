@@ -1,12 +1,4 @@
-// The outcome of a call, in the first 968 bytes of a buffer: what test_calls writes for the comparison with the model, and what test_refusals compares.
-// But for `recent`, 8 bytes a number, the high byte first:
-//    0  1 accepted, with the count at 8, or 2 refused, with the refusal number at 8
-//   16  a close's six totals, in document 01's order, or zeros
-//   64  the processor after the call: mode, azimuth, taken, and at 88 the 20 words of its front, as they are declared
-//  248  recent, 256 bytes
-//  504  the four places, 104 bytes each: 1 open, with F1, the four marks, settled, code, unsure, 0 lone or 1 average, the bits of the
-//       reference, N and S, or zeros
-//  920  the counts: found, opened, sidelobe, garbled, lost, phantoms
+// The outcome of a call, as main.rt lays it down, at the start of a buffer of 968 bytes or more.
 use fields::bits_of;
 use front::words::Front;
 use processor::Processor;

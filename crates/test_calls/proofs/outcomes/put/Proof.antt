@@ -4,8 +4,8 @@ use native.Mathlib.Omega.{arith}
 use mathlib.Core.Path.{_≡_}
 use lib.ListN.{length, length-set}
 use borrow.Author.Needs.{needs}
-use Rattle.test_outcomes.proofs.put.Statement.{statement}
-use Rattle.test_outcomes.proofs.put.Tie as tie
+use Rattle.test_calls.proofs.outcomes.put.Statement.{statement}
+use Rattle.test_calls.proofs.outcomes.put.Tie as tie
 
 abbrev Inv-loop : tie.InvT-loop
 Inv-loop out₀ at x rest₀ i₀ out rest i = (i ≤ 8) × (length out ≡ length out₀)

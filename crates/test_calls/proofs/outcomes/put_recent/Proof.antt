@@ -4,8 +4,8 @@ use native.Mathlib.Omega.{arith}
 use mathlib.Core.Path.{_≡_}
 use lib.ListN.{length, length-set}
 use borrow.Author.Needs.{needs}
-use Rattle.test_outcomes.proofs.put_recent.Statement.{statement}
-use Rattle.test_outcomes.proofs.put_recent.Tie as tie
+use Rattle.test_calls.proofs.outcomes.put_recent.Statement.{statement}
+use Rattle.test_calls.proofs.outcomes.put_recent.Tie as tie
 
 abbrev Inv-loop : tie.InvT-loop
 Inv-loop out₀ recent i₀ out i = (i ≤ 256) × (length out ≡ length out₀)

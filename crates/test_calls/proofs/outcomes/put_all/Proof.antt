@@ -3,8 +3,8 @@ use Prim.Native.Nat.{_≤_, _-_}
 use mathlib.Core.Path.{_≡_}
 use lib.ListN.{length}
 use borrow.Author.Needs.{needs}
-use Rattle.test_outcomes.proofs.put_all.Statement.{statement}
-use Rattle.test_outcomes.proofs.put_all.Tie as tie
+use Rattle.test_calls.proofs.outcomes.put_all.Statement.{statement}
+use Rattle.test_calls.proofs.outcomes.put_all.Tie as tie
 
 abbrev Inv-loop : tie.InvT-loop
 Inv-loop out₀ at numbers i₀ out i = (i ≤ length numbers) × (length out ≡ length out₀)
