@@ -73,9 +73,5 @@ pub fn agreement_of(p: [Place; 4], on: Words, i: u32, v: u8) -> Agreement
         c: any3(own.a, own.b, own.d),
         d: any3(own.a, own.b, own.c),
     };
-    Agreement {
-        covers,
-        own,
-        other,
-    }
+    Agreement { covers, own, other }
 }

@@ -107,7 +107,10 @@ fn same_counts(a: Counts, b: Counts) -> bool {
 }
 
 fn same_places(a: [Place; 4], b: [Place; 4]) -> bool {
-    same_place(a[0], b[0]) & same_place(a[1], b[1]) & same_place(a[2], b[2]) & same_place(a[3], b[3])
+    same_place(a[0], b[0])
+        & same_place(a[1], b[1])
+        & same_place(a[2], b[2])
+        & same_place(a[3], b[3])
 }
 
 fn same_values(a: [u8; 256], b: [u8; 256]) -> bool {
@@ -120,7 +123,11 @@ fn same_processor(a: Processor, b: Processor) -> bool {
     let x = a.places;
     let y = b.places;
     let settings = (a.mode == b.mode) & (a.azimuth == b.azimuth) & (a.taken == b.taken);
-    settings & same_front(a.front, b.front) & same_values(r, s) & same_places(x, y) & same_counts(a.counts, b.counts)
+    settings
+        & same_front(a.front, b.front)
+        & same_values(r, s)
+        & same_places(x, y)
+        & same_counts(a.counts, b.counts)
 }
 
 // ---- how a sweep ends

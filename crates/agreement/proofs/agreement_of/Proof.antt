@@ -40,7 +40,7 @@ returns c =
     let args = b .before .before .before .before .before .args in
     let covers : Voices = record { a = b .before .before .before .before .marked .result; b = b .before .before .before .marked2 .result; c = b .before .before .marked3 .result; d = b .before .marked4 .result } in
     let covers-as : covers ≡ coversIn (args .on) (args .i) =
-        λ i. record { a = b .before .before .before .before .marked .ensures i; b = b .before .before .before .marked2 .ensures i; c = b .before .before .marked3 .ensures i; d = b .before .marked4 .ensures i } in
+    λ i. record { a = b .before .before .before .before .marked .ensures i; b = b .before .before .before .marked2 .ensures i; c = b .before .before .marked3 .ensures i; d = b .before .marked4 .ensures i } in
     (λ i. record {
       covers = covers;
       own = b .voices-of .ensures i;
