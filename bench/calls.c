@@ -90,6 +90,7 @@ static int take(const call *c, arp_state *s, uint8_t *lent)
 /* Returns 0 at the end of the calls. */
 static int carry_out(const call *c, arp_state *s)
 {
+    static const arp_state idle;    /* what a refused opening gives */
     static uint8_t out[TOLD + LENT];
     arp_totals totals = { 0, 0, 0, 0, 0, 0 };
     int answer;
@@ -113,7 +114,7 @@ static int carry_out(const call *c, arp_state *s)
     default:
         give_up("an unknown kind of call");
     }
-    tell(c, out, answer, &totals, s);
+    tell(c, out, answer, &totals, c->kind == OPEN && answer < 0 ? &idle : s);
     return 1;
 }
 

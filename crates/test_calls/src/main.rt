@@ -21,7 +21,8 @@
 //  504  the four places, 104 bytes each: 1 open, with F1, the four marks, settled, code, unsure, 0 lone or 1 average, the bits of the
 //       reference, N and S, or zeros
 //  920  the counts: found, opened, sidelobe, garbled, lost, phantoms
-// A processor that is not shown is 904 bytes of the buffer's filling. A refused opening leaves the processor that there was.
+// A processor that is not shown is 904 bytes of the buffer's filling. A refused opening shows the processor that it gave, and the next call goes on with the
+// one that there was.
 mod outcomes;
 
 use libc::STDERR_FILENO;
@@ -148,11 +149,14 @@ fn tell(
     }
 }
 
-// The processor after an opening that gave `opened`.
-fn after_opening(before: Processor, answer: Answer, opened: Processor) -> Processor {
+// The step after an opening whose outcome is told by `s`: where it was refused, the processor stays.
+fn after_opening(before: Processor, answer: Answer, s: Step) -> Step {
     match answer {
-        Answer::Accepted(_) => opened,
-        Answer::Refused(_) => before,
+        Answer::Accepted(_) => s,
+        Answer::Refused(_) => Step {
+            going: s.going,
+            processor: before,
+        },
     }
 }
 
@@ -163,8 +167,8 @@ fn make_open(p: Processor, c: Call) -> Step {
     let mut out = [c.fill; OUTCOME];
     let o = sweep::open(c.mode, c.azimuth);
     let answer = o.answer;
-    let after = after_opening(p, answer, o.processor);
-    tell(c.shown, answer, no_totals(), after, &mut out, 0)
+    let s = tell(c.shown, answer, no_totals(), o.processor, &mut out, 0);
+    after_opening(p, answer, s)
 }
 
 // A take that is lent the `lent` bytes behind what is told.

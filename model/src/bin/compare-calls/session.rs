@@ -63,11 +63,14 @@ impl Session {
         self.follow(&placed.call, &result);
         same_told(&told(&result), &outcome.told())?;
         same_buffer(&buffer, outcome.buffer())?;
-        self.check_processor(&result, outcome)?;
+        let refused_open = is_refused_open(&placed.call, &result);
+        self.check_processor(refused_open, &result, outcome)?;
         if whole.is_some() && result.is_ok() && self.model != Processor::Idle {
             tally.compared += self.check_cutting(outcome)?;
         }
-        self.now = outcome.processor().to_vec();
+        if !refused_open {
+            self.now = outcome.processor().to_vec();
+        }
         Ok(())
     }
 
@@ -110,15 +113,17 @@ impl Session {
         }
     }
 
-    /// "A refusal returns its number alone, with the old processor"; an accepted close gives "the
-    /// idle processor, one fixed value"; else the fields are compared that the model can tell.
+    /// A refused take or close gives back the processor that went in; a refused opening and an
+    /// accepted close give the idle one; else the fields are compared that the model can tell.
     fn check_processor(
         &self,
+        refused_open: bool,
         result: &Result<Answer, Refusal>,
         outcome: &Outcome,
     ) -> Result<(), String> {
         let shown = outcome.processor();
         match result {
+            Err(_) if refused_open => same_processor("at the start", &self.idle, shown),
             Err(_) => same_processor("before the refused call", &self.now, shown),
             Ok(Answer::Closed { .. }) => same_processor("at the start", &self.idle, shown),
             Ok(_) => {
@@ -157,6 +162,11 @@ impl Session {
         self.after.clear();
         self.now.clone_from(&self.idle);
     }
+}
+
+/// The next call goes on with the processor that there was before it.
+pub fn is_refused_open(call: &Call, result: &Result<Answer, Refusal>) -> bool {
+    matches!(call, Call::Open { .. }) && result.is_err()
 }
 
 /// The values of the last 256 ticks; samples before the trace count as zero.

@@ -2,6 +2,7 @@
 //! alone. The model has no fields of a processor in the middle of a sweep, so there none is shown.
 
 use crate::form::{end, fresh_processor, told, Outcome, Placed};
+use crate::session::is_refused_open;
 use model::generate::calls::Call;
 use model::sweep::Processor;
 
@@ -69,15 +70,19 @@ pub fn stored() -> Stored {
         if result.is_ok() {
             bytes = processor_bytes(&model, &call, bytes);
         }
+        let given = match is_refused_open(&call, &result) {
+            true => Some(fresh_processor(0, 0)),
+            false => bytes.clone(),
+        };
         let placed = Placed {
             call,
-            shown: bytes.is_some(),
+            shown: given.is_some(),
             around: 0xff,
             fill: 0xa5,
             starts: (1_000, 3_001),
         };
         let not_shown = vec![placed.fill; fresh_processor(0, 0).len()];
-        let shown = bytes.as_ref().unwrap_or(&not_shown);
+        let shown = given.as_ref().unwrap_or(&not_shown);
         stdin.extend(placed.bytes());
         stdout.extend(Outcome::of(&told(&result), shown, &buffer).0);
     }
