@@ -1,14 +1,12 @@
 -- A processor with no tick taken; what the processor of a trace holds.
-use Prim.Native.Nat.{ℕ, _+_, _-_}
+use Prim.Native.Nat.{ℕ}
 use native.Mathlib.Omega.{arith}
 use mathlib.Core.Path.{_≡_, refl, sym, ap, _∙_}
 use mathlib.Core.List.{List, [], _∷_}
 use lib.ListN.{length, replicate}
 use Rattle.rules.specs.declared.Place.{Place}
 use Rattle.rules.specs.declared.Counts.{Counts}
-use Rattle.rules.specs.Settings.{standard}
 use Rattle.rules.specs.Samples.{Trace}
-use Rattle.rules.specs.Edges.{edgeAt}
 use Rattle.rules.specs.Machine.{start, after}
 use Rattle.places.specs.Places.{idle}
 use Rattle.marking.specs.Marks.{four}
