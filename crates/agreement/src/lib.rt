@@ -14,8 +14,8 @@ use replies::near;
 use rules::Place;
 use rules::Slot;
 
-// Something said of each of the four places.
-pub struct Voices {
+// Whether something holds of each of the four places.
+pub struct Each {
     pub a: bool,
     pub b: bool,
     pub c: bool,
@@ -38,10 +38,10 @@ pub fn speaks(c: bool, p: Place, v: u8) -> bool
 }
 
 // Whether each place covers an edge, which c says, and agrees with its value.
-fn voices_of(p: [Place; 4], c: Voices, v: u8) -> Voices
+fn voices_of(p: [Place; 4], c: Each, v: u8) -> Each
     ensures { λ r. ⌜ r ≡ voicesBy v c p ⌝ }
 {
-    Voices {
+    Each {
         a: speaks(c.a, p[0], v),
         b: speaks(c.b, p[1], v),
         c: speaks(c.c, p[2], v),
@@ -51,23 +51,23 @@ fn voices_of(p: [Place; 4], c: Voices, v: u8) -> Voices
 
 // Which places cover an edge; of these, whose reference its value agrees with, and beside whom it agrees with another's.
 pub struct Agreement {
-    pub covers: Voices,
-    pub own: Voices,
-    pub other: Voices,
+    pub covers: Each,
+    pub own: Each,
+    pub other: Each,
 }
 
 pub fn agreement_of(p: [Place; 4], on: Words, i: u32, v: u8) -> Agreement
     requires { ⌜ i < 64 ⌝ }
     ensures { λ r. ⌜ r ≡ agreementBy v (coversIn on i) p ⌝ }
 {
-    let covers = Voices {
+    let covers = Each {
         a: marked(on.a, i),
         b: marked(on.b, i),
         c: marked(on.c, i),
         d: marked(on.d, i),
     };
     let own = voices_of(p, covers, v);
-    let other = Voices {
+    let other = Each {
         a: any3(own.b, own.c, own.d),
         b: any3(own.a, own.c, own.d),
         c: any3(own.a, own.b, own.d),

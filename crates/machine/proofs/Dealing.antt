@@ -21,7 +21,7 @@ use Rattle.places.proofs.PlaceLaws.{covers-in, deal-by}
 use Rattle.plane.specs.Words.{bit}
 use Rattle.marking.specs.declared.Words.{Words}
 use Rattle.marking.specs.Marks.{four, Marked, AnyWord, twoOf, TwiceWord, whichOf}
-use Rattle.agreement.specs.declared.Voices.{Voices}
+use Rattle.agreement.specs.declared.Each.{Each}
 use Rattle.agreement.specs.declared.Agreement.{Agreement}
 use Rattle.agreement.specs.Voices.{coversIn, voicesBy, othersOf, agreementBy}
 use Rattle.settling.specs.Deals.{heardBy, hearing, DealPost}
@@ -31,7 +31,7 @@ use Rattle.settling.proofs.Hearing.{covered-law}
 abbrev pub turned : Bool → ℕ → (Place → Place) → List Place → List Place
 turned c j f l = cond c (set l j (f (getD l j idle))) l
 
-abbrev pub allTurned : Pulse → Bool → Bool → Bool → Bool → Voices → List Place → List Place
+abbrev pub allTurned : Pulse → Bool → Bool → Bool → Bool → Each → List Place → List Place
 allTurned e a b c d v l =
     turned d 3 (hearing e (v .d) (any3 (v .a) (v .b) (v .c)))
     (turned c 2 (hearing e (v .c) (any3 (v .a) (v .b) (v .d)))
@@ -81,7 +81,7 @@ module _ (a b c : Bool) (f g h : Place → Place) (l m₁ m₂ m₃ : List Place
       ap (λ (z : List Place). getD z 3 idle) k ∙ stays c 2 3 h m₂ (λ z. omega arith) ∙ ap (λ (z : List Place). getD z 3 idle) d ∙ stays b 1 3 g m₁ (λ z. omega arith)
       ∙ ap (λ (z : List Place). getD z 3 idle) e ∙ stays a 0 3 f l (λ z. omega arith)
 
-pub chain : (e : Pulse) (a b c d : Bool) (v : Voices) (l m₁ m₂ m₃ m₄ : List Place) → m₁ ≡ turned a 0 (hearing e (v .a) (any3 (v .b) (v .c) (v .d))) l
+pub chain : (e : Pulse) (a b c d : Bool) (v : Each) (l m₁ m₂ m₃ m₄ : List Place) → m₁ ≡ turned a 0 (hearing e (v .a) (any3 (v .b) (v .c) (v .d))) l
     → m₂ ≡ turned b 1 (hearing e (v .b) (any3 (v .a) (v .c) (v .d))) m₁ → m₃ ≡ turned c 2 (hearing e (v .c) (any3 (v .a) (v .b) (v .d))) m₂
     → m₄ ≡ turned d 3 (hearing e (v .d) (any3 (v .a) (v .b) (v .c))) m₃ → m₄ ≡ allTurned e a b c d v l
 chain e a b c d v l m₁ m₂ m₃ m₄ h₁ h₂ h₃ h₄ =
@@ -108,7 +108,7 @@ turn-of : (e : Pulse) (c own other : Bool) (p : Place) → c ≡ test (covers (e
 turn-of e true own other p h = refl
 turn-of e false own other p h = λ i. record { slot = away e (verdict (e .main) own other) (e .tick .0) (p .slot) (covers-in (e .tick .0) p ∙ sym h) i }
 
-turns : (e : Pulse) (a b c d : Bool) (v : Voices) (l : List Place) → length l ≡ 4
+turns : (e : Pulse) (a b c d : Bool) (v : Each) (l : List Place) → length l ≡ 4
     → four (allTurned e a b c d v l)
     ≡ record { p0 = cond a (hearing e (v .a) (any3 (v .b) (v .c) (v .d)) (getD l 0 idle)) (getD l 0 idle); p1 = cond b (hearing e (v .b) (any3 (v .a) (v .c) (v .d)) (getD l 1 idle)) (getD l 1 idle); p2 = cond c (hearing e (v .c) (any3 (v .a) (v .b) (v .d)) (getD l 2 idle)) (getD l 2 idle); p3 = cond d (hearing e (v .d) (any3 (v .a) (v .b) (v .c)) (getD l 3 idle)) (getD l 3 idle) }
 turns e true true true true v (w ∷ x ∷ y ∷ z ∷ []) s = refl

@@ -70,9 +70,10 @@ pub fn stored() -> Stored {
         if result.is_ok() {
             bytes = processor_bytes(&model, &call, bytes);
         }
-        let given = match is_refused_open(&call, &result) {
-            true => Some(fresh_processor(0, 0)),
-            false => bytes.clone(),
+        let given = if is_refused_open(&call, &result) {
+            Some(fresh_processor(0, 0))
+        } else {
+            bytes.clone()
         };
         let placed = Placed {
             call,
