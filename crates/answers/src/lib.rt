@@ -1,56 +1,25 @@
 // One line: what it makes of the sweep, and what it prints.
 ghost use Prim.Native.Nat.{_+_, _≤_};
-ghost use mathlib.Core.Path.{_≡_};
 ghost use lib.ListN.{length};
-ghost use Rattle.answers.specs.Outcomes.{stops, openedAt, takenAt, closedAt};
-ghost use Rattle.answers.specs.Post.{AnswerPost, TakeShown, CloseShown, StepPost, RestPost, pieceOf, saidAt, numberOf, countIn};
+ghost use Rattle.steps.specs.Outcomes.{openedAt, takenAt, closedAt};
+ghost use Rattle.steps.specs.Post.{AnswerPost, StepPost, pieceOf, saidAt, countIn};
+use calls::Answer;
 use frames::has_room;
-use frames::refusal_line;
-use frames::reply_lines;
-use frames::totals_line;
 use processor::Processor;
 use reading::Frame;
 use reading::Line;
 use reading::read;
-use rules::Totals;
-use sweep::Answer;
+use steps::MOST;
+use steps::Step;
+use steps::Stepped;
+use steps::number_of;
+use steps::show_close;
+use steps::show_take;
+use steps::stop;
+use steps::with_processor;
 use sweep::close;
 use sweep::open;
 use sweep::take;
-
-// Eight replies of 39 bytes and the totals, 27 bytes: the most that a line prints.
-const MOST: usize = 339;
-
-// The survey goes on, or stops with the number of a refusal, and has printed up to a place in the buffer; or the buffer has no room for what a
-// line may print.
-pub enum Step {
-    Goes(usize),
-    Stops(u8, usize),
-    Full,
-}
-
-pub struct Stepped {
-    pub step: Step,
-    pub processor: Processor,
-}
-
-fn with_processor(step: Step, processor: Processor) -> Stepped
-    ensures { λ r. ⌜ r ≡ record { step = step; processor = processor } ⌝ }
-{
-    Stepped { step, processor }
-}
-
-// A refusal stops the survey.
-fn stop(p: Processor, number: u8, out: &mut [u8], at: usize) -> Stepped
-    requires { ⌜ at + 339 ≤ length (now out) ⌝ }
-    ensures { λ r. ⌜ AnswerPost (λ σ. stops number) p at (now (out .entry)) r (now (out .exit)) ⌝ }
-{
-    let end = refusal_line(number, out, at);
-    Stepped {
-        step: Step::Stops(number, end),
-        processor: p,
-    }
-}
 
 // `01` during a sweep starts afresh.
 fn opened(p: Processor, mode: u8, azimuth: u16, out: &mut [u8], at: usize) -> Stepped
@@ -62,22 +31,6 @@ fn opened(p: Processor, mode: u8, azimuth: u16, out: &mut [u8], at: usize) -> St
     match answer {
         Answer::Refused(number) => stop(p, number, out, at),
         Answer::Accepted(_) => with_processor(Step::Goes(at), o.processor),
-    }
-}
-
-// What a take prints: its replies stand in the buffer that it was lent.
-fn show_take(answer: Answer, handed: &[u8], out: &mut [u8], at: usize) -> Step
-    ensures { λ r. ⌜ TakeShown answer (now (handed .entry)) at (now (out .entry)) r (now (out .exit)) ⌝ }
-{
-    match answer {
-        Answer::Refused(number) => {
-            let end = refusal_line(number, out, at);
-            Step::Stops(number, end)
-        }
-        Answer::Accepted(count) => {
-            let end = reply_lines(handed, count, out, at);
-            Step::Goes(end)
-        }
     }
 }
 
@@ -93,23 +46,6 @@ fn taken(p: Processor, flags: &[u8], values: &[u8], out: &mut [u8], at: usize) -
     with_processor(step, t.processor)
 }
 
-// What a close prints: its replies, which stand in the buffer that it was lent, and the totals.
-fn show_close(answer: Answer, totals: Totals, handed: &[u8], out: &mut [u8], at: usize) -> Step
-    ensures { λ r. ⌜ CloseShown answer totals (now (handed .entry)) at (now (out .entry)) r (now (out .exit)) ⌝ }
-{
-    match answer {
-        Answer::Refused(number) => {
-            let end = refusal_line(number, out, at);
-            Step::Stops(number, end)
-        }
-        Answer::Accepted(count) => {
-            let place = reply_lines(handed, count, out, at);
-            let end = totals_line(totals, out, place);
-            Step::Goes(end)
-        }
-    }
-}
-
 fn closed(p: Processor, out: &mut [u8], at: usize) -> Stepped
     requires { ⌜ at + 339 ≤ length (now out) ⌝ }
     ensures { λ r. ⌜ AnswerPost closedAt p at (now (out .entry)) r (now (out .exit)) ⌝ }
@@ -119,15 +55,6 @@ fn closed(p: Processor, out: &mut [u8], at: usize) -> Stepped
     let answer = c.answer;
     let step = show_close(answer, c.totals, &handed, out, at);
     with_processor(step, c.processor)
-}
-
-fn number_of(line: Line) -> u8
-    ensures { λ r. ⌜ r ≡ numberOf line ⌝ }
-{
-    match line {
-        Line::Frame(_) => 0,
-        Line::Refused(number) => number,
-    }
 }
 
 // What a line's frame, or the number with which the line is refused, makes of the sweep, and what it prints.
@@ -166,15 +93,4 @@ pub fn line_step(p: Processor, line: &[u8], out: &mut [u8], at: usize) -> Steppe
     let mut values = [0u8; 64];
     let said = read(line, &mut flags, &mut values);
     answer_line(p, said, &flags, &values, out, at)
-}
-
-// What the bytes left at the end of the input print. No newline ends them, so that they are refused, whatever the sweep is.
-pub fn rest_step(out: &mut [u8], at: usize) -> Step
-    ensures { λ r. ⌜ RestPost at (now (out .entry)) r (now (out .exit)) ⌝ }
-{
-    if !has_room(MOST, out, at) {
-        return Step::Full;
-    }
-    let end = refusal_line(9, out, at);
-    Step::Stops(9, end)
 }

@@ -20,11 +20,11 @@ use Rattle.rules.proofs.ListLaws.{all-append}
 use Rattle.rules.proofs.Buffers.{put-one, over-at-nil}
 use Rattle.rules.proofs.Joining.{handed-fresh, append-same, fresh-join}
 use Rattle.rules.proofs.HandingOut.{fresh-most}
-use Rattle.sweep.specs.declared.Answer.the-variants.{Accepted, Refused}
+use Rattle.calls.specs.declared.Answer.the-variants.{Accepted, Refused}
 use Rattle.processor.specs.declared.Processor.{Processor}
-use Rattle.sweep.specs.declared.Taken.{Taken}
+use Rattle.calls.specs.declared.Taken.{Taken}
 use Rattle.processor.specs.State.{Sweep, none, running, Sound, Made}
-use Rattle.sweep.specs.Post.{longer, takeAnswerAt, TakePost}
+use Rattle.calls.specs.Post.{longer, takeAnswerAt, TakePost}
 use Rattle.rules.proofs.Answers.{standard-allowed, took, join-assoc, join-nothing}
 use Rattle.reading.specs.declared.Line.{Line}
 use Rattle.reading.specs.Frames.{Reading, opening, samples, closing, reading, refused as unread}
@@ -37,12 +37,12 @@ use Rattle.lines.specs.declared.batch.Gathering.{Gathering}
 use Rattle.lines.specs.declared.batch.Batched.{Batched}
 use Rattle.lines.specs.declared.scan.Scan.the-variants.{Rest}
 use Rattle.ends.specs.Ends.{LineEnd}
-use Rattle.answers.specs.Outcomes.{Outcome, goes, takenAs, freshOf, outcomeAt, lineAt}
-use Rattle.answers.specs.Post.{pieceOf, countIn}
+use Rattle.steps.specs.Outcomes.{Outcome, goes, takenAs, freshOf, outcomeAt, lineAt}
+use Rattle.steps.specs.Post.{pieceOf, countIn}
 use Rattle.lines.specs.Survey.{linesIn, further, surveyed}
 use Rattle.lines.specs.Post.{Scans}
 use Rattle.lines.specs.Batches.{beginsSamples, samplesIn, AddPost, Takes, Gathered, GatherPost, batchAs, printedAs, TakeAllPost, BatchPost}
-use Rattle.answers.proofs.Answering.{Wrote, write-inside, flags-lent, values-lent, said-most, turned-down, given-back, was-accepted, went-on, replies-wrote}
+use Rattle.steps.proofs.Answering.{Wrote, write-inside, flags-lent, values-lent, said-most, turned-down, given-back, was-accepted, went-on, replies-wrote}
 use Rattle.lines.proofs.Scanning.{good-take, part, survey-first}
 
 -- ---- the first two characters

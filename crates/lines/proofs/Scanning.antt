@@ -18,19 +18,19 @@ use Rattle.rules.proofs.ListLaws.{all-append}
 use Rattle.rules.proofs.Buffers.{over-at-nil, over-at-next}
 use Rattle.processor.specs.declared.Processor.{Processor}
 use Rattle.processor.specs.State.{Sweep, none, running, processorOf, Sound, Made}
-use Rattle.sweep.specs.Post.{takeAnswerAt, closeAnswerAt}
+use Rattle.calls.specs.Post.{takeAnswerAt, closeAnswerAt}
 use Rattle.rules.proofs.Answers.{took}
 use Rattle.reading.specs.Frames.{Reading, opening, samples, closing, reading, refused as unread}
 use Rattle.frames.specs.Writing.{refusalLine}
 use Rattle.reading.proofs.Sizes.{Sized, reading-sized, no-newline, too-long}
 use Rattle.ends.specs.Ends.{NoNewline, LineEnd, LinePast}
 use Rattle.ends.proofs.Newlines.{Plain, plain, plain-last}
-use Rattle.answers.specs.declared.Step.{Step}
-use Rattle.answers.specs.declared.Step.the-variants.{Goes, Stops, Full}
-use Rattle.answers.specs.declared.Stepped.{Stepped}
-use Rattle.answers.specs.Outcomes.{Outcome, goes, stops, openedAs, takenAs, closedAs, outcomeAt, lineAt, printed}
-use Rattle.answers.specs.Post.{steppedAs, outputAs, hasRoom, placeOf, StepPost}
-use Rattle.answers.proofs.Rest.{nine, rest-nine}
+use Rattle.steps.specs.declared.Step.{Step}
+use Rattle.steps.specs.declared.Step.the-variants.{Goes, Stops, Full}
+use Rattle.steps.specs.declared.Stepped.{Stepped}
+use Rattle.steps.specs.Outcomes.{Outcome, goes, stops, openedAs, takenAs, closedAs, outcomeAt, lineAt, printed}
+use Rattle.steps.specs.Post.{steppedAs, outputAs, hasRoom, placeOf, StepPost}
+use Rattle.steps.proofs.Rest.{nine, rest-nine}
 use Rattle.lines.specs.declared.scan.Scan.the-variants.{Rest, Stopped, Full as NoRoom}
 use Rattle.lines.specs.Survey.{onto, linesIn, further, surveyed}
 use Rattle.lines.specs.Post.{Scans, ScanPost}

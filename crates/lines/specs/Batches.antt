@@ -12,14 +12,14 @@ use Rattle.rules.specs.Buffers.{over-at}
 use Rattle.rules.specs.Calls.{Answer, accepted, refused}
 use Rattle.processor.specs.declared.Processor.{Processor}
 use Rattle.processor.specs.State.{Sweep, isOpen, takenBy, processorOf, Sound, Made}
-use Rattle.sweep.specs.Post.{longer, takeAnswerAt}
+use Rattle.calls.specs.Post.{longer, takeAnswerAt}
 use Rattle.reading.specs.Frames.{Reading, opening, samples, closing, reading, refused as unread}
 use Rattle.frames.specs.Writing.{replyLines}
 use Rattle.lines.specs.declared.batch.Gathering.{Gathering}
 use Rattle.lines.specs.declared.batch.Batched.{Batched}
 use Rattle.lines.specs.declared.scan.Scan.the-variants.{Rest}
-use Rattle.answers.specs.Outcomes.{freshOf}
-use Rattle.answers.specs.Post.{pieceOf}
+use Rattle.steps.specs.Outcomes.{freshOf}
+use Rattle.steps.specs.Post.{pieceOf}
 use Rattle.lines.specs.Survey.{linesIn, surveyed}
 use Rattle.lines.specs.Post.{Scans}
 

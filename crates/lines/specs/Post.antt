@@ -8,7 +8,7 @@ use Rattle.processor.specs.declared.Processor.{Processor}
 use Rattle.processor.specs.State.{Sweep, Made}
 use Rattle.frames.specs.Writing.{refusalLine}
 use Rattle.ends.specs.Ends.{LineEnd, LinePast}
-use Rattle.answers.specs.Outcomes.{stops, lineAt}
+use Rattle.steps.specs.Outcomes.{stops, lineAt}
 use Rattle.lines.specs.declared.scan.Scan.{Scan}
 use Rattle.lines.specs.declared.scan.Scan.the-variants.{Rest, Stopped, Full as NoRoom}
 use Rattle.lines.specs.declared.scan.Scanned.{Scanned}

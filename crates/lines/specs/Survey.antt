@@ -5,7 +5,7 @@ use mathlib.Core.List.{List, [], _∷_, _++_}
 use lib.Dec.{eqb}
 use Rattle.processor.specs.State.{Sweep, none}
 use Rattle.frames.specs.Writing.{refusalLine}
-use Rattle.answers.specs.Outcomes.{Outcome, goes, stops, lineAt}
+use Rattle.steps.specs.Outcomes.{Outcome, goes, stops, lineAt}
 
 abbrev pub onto : ℕ → List (List ℕ) → List (List ℕ)
 onto c [] = (c ∷ []) ∷ []

@@ -3,8 +3,9 @@ ghost use Prim.Native.Nat.{_+_, _≤_};
 ghost use mathlib.Core.Path.{_≡_};
 ghost use lib.ListN.{length, take};
 ghost use Rattle.rules.specs.Buffers.{over-at};
-ghost use Rattle.answers.specs.Post.{countIn, pieceOf};
+ghost use Rattle.steps.specs.Post.{countIn, pieceOf};
 ghost use Rattle.lines.specs.Batches.{beginsSamples, AddPost, GatherPost, TakeAllPost, BatchPost};
+use calls::Answer;
 use ends::End;
 use ends::line_end;
 use frames::has_room;
@@ -13,7 +14,6 @@ use processor::Processor;
 use reading::Frame;
 use reading::Line;
 use reading::read;
-use sweep::Answer;
 use sweep::take;
 
 // 80 replies of 39 bytes: the most that 4,096 ticks print.

@@ -1,11 +1,11 @@
 // The lines of an input, one after the other.
 ghost use Rattle.lines.specs.Post.{ScanPost};
 use super::batch::batch;
-use answers::Step;
 use answers::line_step;
 use ends::End;
 use ends::line_end;
 use processor::Processor;
+use steps::Step;
 
 // What a scan came to: the rest of the input is the start of a line; the output has no more room; or a refusal has stopped the survey.
 pub enum Scan {

@@ -1,8 +1,6 @@
 // The survey program: frames from standard input, replies and totals to standard output, up to the end of input or the first refusal.
 // What is printed for which input is proved in the crate `lines`; here bytes are only read and written. Standard error gets one line: which
 // refusal stopped the survey and after how many bytes of input, or what could not be read or written.
-use answers::Step;
-use answers::rest_step;
 use libc::EINTR;
 use libc::STDERR_FILENO;
 use libc::STDIN_FILENO;
@@ -11,6 +9,8 @@ use lines::Scan;
 use lines::scan_lines;
 use processor::Processor;
 use processor::idle;
+use steps::Step;
+use steps::rest_step;
 ghost use Prim.Native.Nat.{_≤_};
 ghost use mathlib.Core.Path.{_≡_};
 ghost use lib.ListN.{length};

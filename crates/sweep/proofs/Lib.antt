@@ -1,4 +1,1 @@
 pub mod Operations
-pub mod Opening
-pub mod Calls
-pub mod Resting

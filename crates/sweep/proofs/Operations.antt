@@ -20,14 +20,14 @@ use Rattle.rules.specs.Records.{records, totals, replies}
 use Rattle.rules.specs.Calls.{Answer as RulesAnswer, accepted, refused, takeAnswer, closeAnswer, fresh, rest, silence}
 use Rattle.rules.proofs.PastEnd.{rest-silence, past-end, after-silence}
 use Rattle.rules.specs.Buffers.{over, over-at}
-use Rattle.sweep.specs.declared.Answer.{Answer}
-use Rattle.sweep.specs.declared.Answer.the-variants.{Accepted, Refused}
+use Rattle.calls.specs.declared.Answer.{Answer}
+use Rattle.calls.specs.declared.Answer.the-variants.{Accepted, Refused}
 use Rattle.processor.specs.declared.Processor.{Processor}
-use Rattle.sweep.specs.declared.Taken.{Taken}
-use Rattle.sweep.specs.declared.Closed.{Closed}
+use Rattle.calls.specs.declared.Taken.{Taken}
+use Rattle.calls.specs.declared.Closed.{Closed}
 use Rattle.processor.specs.declared.Progress.{Progress}
 use Rattle.processor.specs.State.{Sweep, none, running, idleProcessor, runningProcessor, processorOf, Within, Made}
-use Rattle.sweep.specs.Post.{takeAnswerAt, takeAs, takeBufferAs, TakePost, closeAnswerAt, closeAs, closeBufferAs, noTotals, ClosePost, totalsFrom}
+use Rattle.calls.specs.Post.{takeAnswerAt, takeAs, takeBufferAs, TakePost, closeAnswerAt, closeAs, closeBufferAs, noTotals, ClosePost, totalsFrom}
 use Rattle.marking.specs.Marks.{four}
 use Rattle.processor.specs.Arrays.{listed, progressOf, machineAt}
 use Rattle.processor.proofs.ProcessorLaws.{mode-of, azimuth-of, taken-of, front-of, recent-of, machine-of}
@@ -267,14 +267,3 @@ module _ (p : Processor) (b : List ℕ) (is-accepted : closeAnswer (ltb 0 (p .mo
       wrote (running m azimuth T) q =
           let d = drained m azimuth T (q .is) (q .sound) in
           d .buffer ∙ over-start (records (fresh standard T (silence 448))) b ∙ ap (λ (l : List Reply). over (records l) b) (left m azimuth T (q .is) (q .sound))
-
-pub closed-law : (a : Answer) (x : Totals) (q : Processor) (t : Totals) → x ≡ t → q ≡ idleProcessor
-    → _≡_ {A = Closed} (record { answer = a; totals = x; processor = q }) (record { answer = a; totals = t; processor = idleProcessor })
-closed-law a x q t e f = λ i. record { answer = a; totals = e i; processor = f i }
-
--- more phantoms than replies opened: no calls make such counts
-pub no-replies : (c : Counts) → c .opened < c .phantoms
-    → record { found = c .found; replies = 0; sidelobe = c .sidelobe; garbled = c .garbled; lost = c .lost; phantoms = c .phantoms } ≡ totalsFrom c
-no-replies c h =
-    let z : 0 ≡ c .opened - c .phantoms = omega arith in
-    λ i. record { found = c .found; replies = z i; sidelobe = c .sidelobe; garbled = c .garbled; lost = c .lost; phantoms = c .phantoms }

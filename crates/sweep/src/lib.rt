@@ -1,60 +1,27 @@
 // Opening, taking and closing a sweep. A processor goes in by value and comes back by value; a refusal gives back the one that went in.
 // No operation asks anything of its caller: any processor value, any slices and any buffer are safe.
-ghost use Prim.Native.Nat.{_/_};
-ghost use mathlib.Core.List.{[]};
 ghost use mathlib.Core.Path.{_≡_};
 ghost use lib.Dec.{ltb};
 ghost use lib.ListN.{length};
 ghost use Rattle.rules.specs.Calls.{accepted, takeAnswer, closeAnswer};
-ghost use Rattle.processor.specs.State.{idleProcessor, runningProcessor};
-ghost use Rattle.sweep.specs.Post.{openOf, noTotals, TakePost, ClosePost, totalsFrom};
-ghost use Rattle.sweep.specs.declared.Answer.the-variants.{Accepted, Refused};
+ghost use Rattle.calls.specs.Post.{openOf, TakePost, ClosePost};
+use calls::Answer;
+use calls::Closed;
+use calls::Opened;
+use calls::Taken;
+use calls::closed_after;
+use calls::no_close;
+use calls::no_take;
+use calls::opened_with;
 use front::values::keep;
 use pieces::drain;
 use pieces::feed;
 use processor::Processor;
-use processor::Progress;
-use processor::begun;
-use processor::idle;
 use processor::moved;
 use processor::progress_of;
 use refusals::close_refusal;
 use refusals::open_refusal;
 use refusals::take_refusal;
-use rules::Counts;
-use rules::Totals;
-
-// A call was carried out, with so many records written, or turned down with a number.
-pub enum Answer {
-    Accepted(usize),
-    Refused(u8),
-}
-
-pub struct Opened {
-    pub answer: Answer,
-    pub processor: Processor,
-}
-
-pub struct Taken {
-    pub answer: Answer,
-    pub processor: Processor,
-}
-
-pub struct Closed {
-    pub answer: Answer,
-    pub totals: Totals,
-    pub processor: Processor,
-}
-
-// An answer beside the processor of a sweep with no tick taken.
-fn opened_with(answer: Answer, mode: u8, azimuth: u16) -> Opened
-    ensures { λ r. ⌜ r ≡ record { answer = answer; processor = runningProcessor mode azimuth (record { flags = []; values = [] }) } ⌝ }
-{
-    Opened {
-        answer,
-        processor: begun(mode, azimuth),
-    }
-}
 
 // Opens a sweep. 1: mode not 1 to 3. 2: azimuth above 16,383. The processor of a refused opening is the idle one.
 pub fn open(mode: u8, azimuth: u16) -> Opened
@@ -65,16 +32,6 @@ pub fn open(mode: u8, azimuth: u16) -> Opened
         return opened_with(Answer::Refused(number), 0, 0);
     }
     opened_with(Answer::Accepted(0), mode, azimuth)
-}
-
-// A take that is turned down.
-fn no_take(p: Processor, number: u8) -> Taken
-    ensures { λ r. ⌜ r ≡ record { answer = Refused number; processor = p } ⌝ }
-{
-    Taken {
-        answer: Answer::Refused(number),
-        processor: p,
-    }
 }
 
 // A take that is carried out.
@@ -102,60 +59,6 @@ pub fn take(p: Processor, flags: &[u8], values: &[u8], out: &mut [u8]) -> Taken
         return no_take(p, number);
     }
     take_piece(p, flags, values, out)
-}
-
-// The totals, from the machine's counts.
-fn totals_of(c: Counts) -> Totals
-    ensures { λ r. ⌜ r ≡ totalsFrom c ⌝ }
-{
-    if c.opened < c.phantoms {
-        return Totals {
-            found: c.found,
-            replies: 0,
-            sidelobe: c.sidelobe,
-            garbled: c.garbled,
-            lost: c.lost,
-            phantoms: c.phantoms,
-        };
-    }
-    Totals {
-        found: c.found,
-        replies: c.opened - c.phantoms,
-        sidelobe: c.sidelobe,
-        garbled: c.garbled,
-        lost: c.lost,
-        phantoms: c.phantoms,
-    }
-}
-
-// A close that is turned down.
-fn no_close(p: Processor, number: u8) -> Closed
-    ensures { λ r. ⌜ r ≡ record { answer = Refused number; totals = noTotals; processor = p } ⌝ }
-{
-    Closed {
-        answer: Answer::Refused(number),
-        totals: Totals {
-            found: 0,
-            replies: 0,
-            sidelobe: 0,
-            garbled: 0,
-            lost: 0,
-            phantoms: 0,
-        },
-        processor: p,
-    }
-}
-
-// What a close answers after the zeros past the end.
-fn closed_after(y: Progress) -> Closed
-    ensures { λ r. ⌜ r ≡ record { answer = Accepted (y .at / 18); totals = totalsFrom (y .counts); processor = idleProcessor } ⌝ }
-{
-    let counts = y.counts;
-    Closed {
-        answer: Answer::Accepted(y.at / 18),
-        totals: totals_of(counts),
-        processor: idle(),
-    }
 }
 
 // A close that is carried out.

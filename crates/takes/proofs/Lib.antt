@@ -2,3 +2,4 @@
 pub mod Pieces
 pub mod Taking
 pub mod Keeping
+pub mod Resting

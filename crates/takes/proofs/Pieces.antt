@@ -15,12 +15,12 @@ use Rattle.rules.specs.Buffers.{over, over-at}
 use Rattle.rules.specs.Records.{records}
 use Rattle.rules.specs.Calls.{accepted, fresh}
 use Rattle.rules.proofs.HandingOut.{fresh-most}
-use Rattle.sweep.specs.declared.Answer.{Answer}
-use Rattle.sweep.specs.declared.Answer.the-variants.{Accepted, Refused}
+use Rattle.calls.specs.declared.Answer.{Answer}
+use Rattle.calls.specs.declared.Answer.the-variants.{Accepted, Refused}
 use Rattle.processor.specs.declared.Processor.{Processor}
 use Rattle.processor.specs.declared.Progress.{Progress}
 use Rattle.processor.specs.State.{running, runningProcessor, processorOf, Made}
-use Rattle.sweep.specs.Post.{takeAnswerAt}
+use Rattle.calls.specs.Post.{takeAnswerAt}
 use Rattle.blocks.specs.Steps.{quiet, Fed}
 use Rattle.places.specs.Places.{idle}
 use Rattle.marking.specs.Marks.{four}
@@ -29,7 +29,7 @@ use Rattle.pieces.specs.Feeding.{Begins, FeedPost}
 use Rattle.front.specs.Post.{KeepPost}
 use Rattle.rules.proofs.Answers.{took}
 use Rattle.processor.proofs.ProcessorLaws.{mode-of, azimuth-of, taken-of, front-of, recent-of, machine-of}
-use Rattle.sweep.proofs.Resting.{quiet-rests}
+use Rattle.takes.proofs.Resting.{quiet-rests}
 use Rattle.blocks.proofs.Working.{over-nil}
 use Rattle.takes.specs.declared.Reached.{Reached}
 

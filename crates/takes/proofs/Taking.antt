@@ -25,7 +25,7 @@ use Rattle.places.specs.Places.{idle}
 use Rattle.processor.specs.declared.Progress.{Progress}
 use Rattle.processor.specs.Arrays.{listed, machineAt, processorAt, progressOf}
 use Rattle.processor.specs.State.{running, runningProcessor, processorOf, Made}
-use Rattle.sweep.specs.Post.{takeAnswerAt}
+use Rattle.calls.specs.Post.{takeAnswerAt}
 use Rattle.blocks.specs.Steps.{quiet}
 use Rattle.pieces.specs.Feeding.{FeedPost}
 use Rattle.front.specs.Post.{KeepPost}

@@ -25,6 +25,9 @@
 // one that there was.
 mod outcomes;
 
+use calls::Answer;
+use calls::Closed;
+use calls::Taken;
 use libc::STDERR_FILENO;
 use libc::STDIN_FILENO;
 use libc::STDOUT_FILENO;
@@ -33,9 +36,6 @@ use outcomes::put_processor;
 use outcomes::put_totals;
 use processor::Processor;
 use rules::Totals;
-use sweep::Answer;
-use sweep::Closed;
-use sweep::Taken;
 ghost use Prim.Native.Nat.{_≤_};
 ghost use lib.ListN.{length};
 

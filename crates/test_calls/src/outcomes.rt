@@ -1,4 +1,5 @@
 // The outcome of a call, as main.rt lays it down, at the start of a buffer of 968 bytes or more.
+use calls::Answer;
 use fields::bits_of;
 use front::words::Front;
 use processor::Processor;
@@ -8,7 +9,6 @@ use rules::Place;
 use rules::Reply;
 use rules::Slot;
 use rules::Totals;
-use sweep::Answer;
 ghost use Prim.Native.Nat.{_+_, _*_, _≤_};
 ghost use lib.ListN.{length};
 

@@ -20,7 +20,7 @@ use Rattle.rules.proofs.Joining.{handed-rest, records-append, records-length}
 use Rattle.rules.proofs.HandingOut.{rest-most}
 use Rattle.processor.specs.declared.Processor.{Processor}
 use Rattle.processor.specs.State.{running, runningProcessor, processorOf, Made}
-use Rattle.sweep.specs.Post.{openOf}
+use Rattle.calls.specs.Post.{openOf}
 use Rattle.rules.proofs.Answers.{standard-allowed}
 use Rattle.takes.specs.declared.Reached.{Reached}
 use Rattle.refusals.specs.Whole.{wholeRoom, wholeAnswer}

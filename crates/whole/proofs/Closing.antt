@@ -15,11 +15,11 @@ use Rattle.rules.specs.Records.{records, totals}
 use Rattle.rules.specs.Calls.{Answer, accepted, closeAnswer, closeRoom, rest}
 use Rattle.rules.proofs.HandingOut.{rest-most}
 use Rattle.frames.specs.Writing.{totalsBytes}
-use Rattle.sweep.specs.declared.Answer.the-variants.{Accepted, Refused}
+use Rattle.calls.specs.declared.Answer.the-variants.{Accepted, Refused}
 use Rattle.processor.specs.declared.Processor.{Processor}
-use Rattle.sweep.specs.declared.Closed.{Closed}
+use Rattle.calls.specs.declared.Closed.{Closed}
 use Rattle.processor.specs.State.{running, Made}
-use Rattle.sweep.specs.Post.{closeAnswerAt, closeAs, closeBufferAs, ClosePost}
+use Rattle.calls.specs.Post.{closeAnswerAt, closeAs, closeBufferAs, ClosePost}
 use Rattle.rules.proofs.Answers.{standard-allowed}
 use Rattle.whole.specs.Post.{CloseAtPost}
 use Rattle.takes.proofs.Pieces.{isRefused, countIn, over-rest, mid-is, post-is}

@@ -1,5 +1,5 @@
 use mathlib.Core.Path.{refl}
-use Rattle.answers.proofs.Answering.{answer-as, close-step}
+use Rattle.steps.proofs.Answering.{answer-as, close-step}
 use borrow.Author.Needs.{needs}
 use Rattle.answers.proofs.closed.Statement.{statement}
 use Rattle.answers.proofs.closed.Tie as tie

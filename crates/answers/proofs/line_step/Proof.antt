@@ -3,7 +3,7 @@ use Prim.Native.Nat.{_+_}
 use lib.ListN.{length}
 use mathlib.Core.Path.{refl, sym, _∙_}
 use borrow.Author.Tests.{not-true, not-false, leb-true}
-use Rattle.answers.proofs.Answering.{full-post, flags-lent, values-lent, said-most, step-post}
+use Rattle.steps.proofs.Answering.{full-post, flags-lent, values-lent, said-most, step-post}
 use borrow.Author.Needs.{needs}
 use Rattle.answers.proofs.line_step.Statement.{statement}
 use Rattle.answers.proofs.line_step.Tie as tie

@@ -1,6 +1,6 @@
 use mathlib.Core.Path.{refl}
-use Rattle.answers.specs.Post.{pieceOf}
-use Rattle.answers.proofs.Answering.{answer-as, take-step}
+use Rattle.steps.specs.Post.{pieceOf}
+use Rattle.steps.proofs.Answering.{answer-as, take-step}
 use borrow.Author.Needs.{needs}
 use Rattle.answers.proofs.taken.Statement.{statement}
 use Rattle.answers.proofs.taken.Tie as tie

@@ -1,7 +1,7 @@
 use mathlib.Core.Path.{_≡_, refl}
 use lib.ListN.{length}
 use Prim.Native.Nat.{_≤_}
-use Rattle.answers.proofs.Answering.{part-length}
+use Rattle.steps.proofs.Answering.{part-length}
 use borrow.Author.Needs.{needs}
 use native.Mathlib.Omega.{arith}
 use Rattle.survey.proofs.after_lines.Statement.{statement}

@@ -1,14 +1,14 @@
-use Rattle.answers.specs.Post.{placeOf}
-use Rattle.answers.specs.declared.Step.{Step}
+use Rattle.steps.specs.Post.{placeOf}
+use Rattle.steps.specs.declared.Step.{Step}
 use mathlib.Core.Path.{ap}
-use Rattle.answers.proofs.Answering.{part-length}
+use Rattle.steps.proofs.Answering.{part-length}
 use native.Mathlib.Omega.{arith}
 use borrow.Author.Needs.{needs}
 use Rattle.survey.proofs.last.Statement.{statement}
 use Rattle.survey.proofs.last.Tie as tie
 use Rattle.survey.proofs.last.Reads as reads
 use Rattle.survey.proofs.last.Lts as lts
-use Rattle.answers.proofs.rest_step.Reads as rest-step-reads
+use Rattle.steps.proofs.rest_step.Reads as rest-step-reads
 use Rattle.survey.proofs.more.Reads as more-reads
 use Rattle.survey.proofs.print.Reads as print-reads
 use Rattle.survey.proofs.report.Reads as report-reads

@@ -1,5 +1,5 @@
 use Rattle.refusals.proofs.Numbers.{turned-down, let-through}
-use Rattle.sweep.proofs.Opening.{open-no, open-yes}
+use Rattle.calls.proofs.Opening.{open-no, open-yes}
 use borrow.Author.Needs.{needs}
 use Rattle.sweep.proofs.open.Statement.{statement}
 use Rattle.sweep.proofs.open.Tie as tie

@@ -2,7 +2,7 @@ use Prim.Native.Nat.{_/_}
 use native.Mathlib.Omega.{arith}
 use mathlib.Core.Path.{ap}
 use Rattle.rules.proofs.Answers.{took}
-use Rattle.sweep.specs.declared.Answer.the-variants.{Accepted}
+use Rattle.calls.specs.declared.Answer.the-variants.{Accepted}
 use Rattle.processor.specs.declared.Processor.{Processor}
 use Rattle.sweep.proofs.Operations.{take-done}
 use borrow.Author.Needs.{needs}

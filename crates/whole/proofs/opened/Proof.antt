@@ -1,7 +1,7 @@
 -- `opened` answers the processor of the opening.
 use borrow.Author.Needs.{needs}
 use mathlib.Core.Path.{ap}
-use Rattle.sweep.specs.declared.Opened.{Opened}
+use Rattle.calls.specs.declared.Opened.{Opened}
 use Rattle.whole.proofs.opened.Statement.{statement}
 use Rattle.whole.proofs.opened.Tie as tie
 

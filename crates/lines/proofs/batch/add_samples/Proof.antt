@@ -1,5 +1,5 @@
 use Rattle.lines.proofs.Batching.{add-post}
-use Rattle.answers.proofs.Answering.{flags-lent, values-lent}
+use Rattle.steps.proofs.Answering.{flags-lent, values-lent}
 use native.Mathlib.Omega.{arith}
 use mathlib.Core.Path.{refl}
 use borrow.Author.Needs.{needs}

@@ -1,5 +1,5 @@
 use borrow.Author.Needs.{needs}
-use Rattle.answers.proofs.Answering.{part-length}
+use Rattle.steps.proofs.Answering.{part-length}
 use native.Mathlib.Omega.{arith}
 use Rattle.lines.proofs.Batching.{part-short, batch-nothing, batch-post}
 use borrow.Author.Tests.{not-false, leb-true}

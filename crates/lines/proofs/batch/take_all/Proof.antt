@@ -1,9 +1,9 @@
-use Rattle.answers.specs.Post.{pieceOf}
+use Rattle.steps.specs.Post.{pieceOf}
 use native.Mathlib.Omega.{arith}
 use mathlib.Core.Path.{refl, ap}
 use Prim.Native.Nat.{ℕ, _*_}
 use Rattle.lines.proofs.Batching.{all-refused, all-accepted}
-use Rattle.answers.proofs.Answering.{part-length}
+use Rattle.steps.proofs.Answering.{part-length}
 use borrow.Author.Needs.{needs}
 use Rattle.lines.proofs.batch.take_all.Statement.{statement}
 use Rattle.lines.proofs.batch.take_all.Tie as tie

@@ -1,0 +1,101 @@
+// What a line makes of a survey, and what is printed of an answer. `specs/Outcomes.antt` says what each kind of line is to make.
+ghost use Prim.Native.Nat.{_+_, _≤_};
+ghost use mathlib.Core.Path.{_≡_};
+ghost use lib.ListN.{length};
+ghost use Rattle.steps.specs.Outcomes.{stops};
+ghost use Rattle.steps.specs.Post.{AnswerPost, TakeShown, CloseShown, RestPost, numberOf};
+use calls::Answer;
+use frames::has_room;
+use frames::refusal_line;
+use frames::reply_lines;
+use frames::totals_line;
+use processor::Processor;
+use reading::Line;
+use rules::Totals;
+
+// Eight replies of 39 bytes and the totals, 27 bytes: the most that a line prints.
+pub const MOST: usize = 339;
+
+// The survey goes on, or stops with the number of a refusal, and has printed up to a place in the buffer; or the buffer has no room for what a
+// line may print.
+pub enum Step {
+    Goes(usize),
+    Stops(u8, usize),
+    Full,
+}
+
+pub struct Stepped {
+    pub step: Step,
+    pub processor: Processor,
+}
+
+pub fn with_processor(step: Step, processor: Processor) -> Stepped
+    ensures { λ r. ⌜ r ≡ record { step = step; processor = processor } ⌝ }
+{
+    Stepped { step, processor }
+}
+
+// A refusal stops the survey.
+pub fn stop(p: Processor, number: u8, out: &mut [u8], at: usize) -> Stepped
+    requires { ⌜ at + 339 ≤ length (now out) ⌝ }
+    ensures { λ r. ⌜ AnswerPost (λ σ. stops number) p at (now (out .entry)) r (now (out .exit)) ⌝ }
+{
+    let end = refusal_line(number, out, at);
+    Stepped {
+        step: Step::Stops(number, end),
+        processor: p,
+    }
+}
+
+// What a take prints: its replies stand in the buffer that it was lent.
+pub fn show_take(answer: Answer, handed: &[u8], out: &mut [u8], at: usize) -> Step
+    ensures { λ r. ⌜ TakeShown answer (now (handed .entry)) at (now (out .entry)) r (now (out .exit)) ⌝ }
+{
+    match answer {
+        Answer::Refused(number) => {
+            let end = refusal_line(number, out, at);
+            Step::Stops(number, end)
+        }
+        Answer::Accepted(count) => {
+            let end = reply_lines(handed, count, out, at);
+            Step::Goes(end)
+        }
+    }
+}
+
+// What a close prints: its replies, which stand in the buffer that it was lent, and the totals.
+pub fn show_close(answer: Answer, totals: Totals, handed: &[u8], out: &mut [u8], at: usize) -> Step
+    ensures { λ r. ⌜ CloseShown answer totals (now (handed .entry)) at (now (out .entry)) r (now (out .exit)) ⌝ }
+{
+    match answer {
+        Answer::Refused(number) => {
+            let end = refusal_line(number, out, at);
+            Step::Stops(number, end)
+        }
+        Answer::Accepted(count) => {
+            let place = reply_lines(handed, count, out, at);
+            let end = totals_line(totals, out, place);
+            Step::Goes(end)
+        }
+    }
+}
+
+pub fn number_of(line: Line) -> u8
+    ensures { λ r. ⌜ r ≡ numberOf line ⌝ }
+{
+    match line {
+        Line::Frame(_) => 0,
+        Line::Refused(number) => number,
+    }
+}
+
+// What the bytes left at the end of the input print. No newline ends them, so that they are refused, whatever the sweep is.
+pub fn rest_step(out: &mut [u8], at: usize) -> Step
+    ensures { λ r. ⌜ RestPost at (now (out .entry)) r (now (out .exit)) ⌝ }
+{
+    if !has_room(MOST, out, at) {
+        return Step::Full;
+    }
+    let end = refusal_line(9, out, at);
+    Step::Stops(9, end)
+}
