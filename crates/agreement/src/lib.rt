@@ -5,7 +5,7 @@ ghost use mathlib.Core.Bool.{_&&_};
 ghost use Rattle.rules.specs.Replies.{agrees};
 ghost use Rattle.rules.specs.Settings.{standard};
 ghost use Rattle.places.specs.Places.{test};
-ghost use Rattle.agreement.specs.Voices.{coversIn, voicesBy, agreementBy};
+ghost use Rattle.agreement.specs.Voices.{coversIn, voicesBy, othersOf, agreementBy};
 use marking::Words;
 use places::any3;
 use plane::marked;
@@ -13,14 +13,6 @@ use replies::level_of;
 use replies::near;
 use rules::Place;
 use rules::Slot;
-
-// Whether something holds of each of the four places.
-pub struct Each {
-    pub a: bool,
-    pub b: bool,
-    pub c: bool,
-    pub d: bool,
-}
 
 // The value agrees with the reference of the place's reply, if c.
 pub fn speaks(c: bool, p: Place, v: u8) -> bool
@@ -37,41 +29,56 @@ pub fn speaks(c: bool, p: Place, v: u8) -> bool
     }
 }
 
-// Whether each place covers an edge, which c says, and agrees with its value.
-fn voices_of(p: [Place; 4], c: Each, v: u8) -> Each
+// Which places cover the edge at tick i of a block.
+fn covers_in(on: Words, i: u32) -> [bool; 4]
+    requires { ⌜ i < 64 ⌝ }
+    ensures { λ r. ⌜ r ≡ coversIn on i ⌝ }
+{
+    [
+        marked(on.a, i),
+        marked(on.b, i),
+        marked(on.c, i),
+        marked(on.d, i),
+    ]
+}
+
+// Of the places that cover an edge, which c says, those whose reference its value agrees with.
+fn voices_of(p: [Place; 4], c: [bool; 4], v: u8) -> [bool; 4]
     ensures { λ r. ⌜ r ≡ voicesBy v c p ⌝ }
 {
-    Each {
-        a: speaks(c.a, p[0], v),
-        b: speaks(c.b, p[1], v),
-        c: speaks(c.c, p[2], v),
-        d: speaks(c.d, p[3], v),
-    }
+    [
+        speaks(c[0], p[0], v),
+        speaks(c[1], p[1], v),
+        speaks(c[2], p[2], v),
+        speaks(c[3], p[3], v),
+    ]
+}
+
+// Whether another than each place does.
+fn others_of(v: [bool; 4]) -> [bool; 4]
+    ensures { λ r. ⌜ r ≡ othersOf v ⌝ }
+{
+    [
+        any3(v[1], v[2], v[3]),
+        any3(v[0], v[2], v[3]),
+        any3(v[0], v[1], v[3]),
+        any3(v[0], v[1], v[2]),
+    ]
 }
 
 // Which places cover an edge; of these, whose reference its value agrees with, and beside whom it agrees with another's.
 pub struct Agreement {
-    pub covers: Each,
-    pub own: Each,
-    pub other: Each,
+    pub covers: [bool; 4],
+    pub own: [bool; 4],
+    pub other: [bool; 4],
 }
 
 pub fn agreement_of(p: [Place; 4], on: Words, i: u32, v: u8) -> Agreement
     requires { ⌜ i < 64 ⌝ }
     ensures { λ r. ⌜ r ≡ agreementBy v (coversIn on i) p ⌝ }
 {
-    let covers = Each {
-        a: marked(on.a, i),
-        b: marked(on.b, i),
-        c: marked(on.c, i),
-        d: marked(on.d, i),
-    };
+    let covers = covers_in(on, i);
     let own = voices_of(p, covers, v);
-    let other = Each {
-        a: any3(own.b, own.c, own.d),
-        b: any3(own.a, own.c, own.d),
-        c: any3(own.a, own.b, own.d),
-        d: any3(own.a, own.b, own.c),
-    };
+    let other = others_of(own);
     Agreement { covers, own, other }
 }

@@ -1,12 +1,14 @@
 -- An edge that goes to one place or to all that cover it makes of the four what the rules say.
-use Prim.Native.Nat.{ℕ, zero, suc}
+use Prim.Native.Nat.{ℕ, zero, suc, _+_, _≤_, _<_}
 use native.Mathlib.Omega.{arith}
+use native.Mathlib.Numerals.{add-one}
 use mathlib.Core.Logic.{_⊎_, inl, inr}
-use mathlib.Core.Path.{_≡_, refl, sym, ap, _∙_, subst}
+use mathlib.Core.Path.{_≡_, refl, sym, ap, ap₂, _∙_, subst}
 use mathlib.Core.Bool.{Bool, true, false, not, _&&_, _||_, cond}
 use mathlib.Core.List.{List, [], _∷_}
 use lib.Dec.{leb, eqb}
 use lib.ListN.{length, getD, set, length-set}
+use Rattle.rules.specs.declared.Reply.{Reply}
 use Rattle.rules.specs.declared.Slot.{Slot}
 use Rattle.rules.specs.declared.Slot.the-variants.{Idle, Open}
 use Rattle.rules.specs.declared.Place.{Place}
@@ -21,9 +23,8 @@ use Rattle.places.proofs.PlaceLaws.{covers-in, deal-by}
 use Rattle.plane.specs.Words.{bit}
 use Rattle.marking.specs.declared.Words.{Words}
 use Rattle.marking.specs.Marks.{four, Marked, AnyWord, twoOf, TwiceWord, whichOf}
-use Rattle.agreement.specs.declared.Each.{Each}
 use Rattle.agreement.specs.declared.Agreement.{Agreement}
-use Rattle.agreement.specs.Voices.{coversIn, voicesBy, othersOf, agreementBy}
+use Rattle.agreement.specs.Voices.{coversIn, voicesBy, anyOf, othersOf, agreementBy}
 use Rattle.settling.specs.Deals.{heardBy, hearing, DealPost}
 use Rattle.settling.proofs.Hearing.{covered-law}
 
@@ -31,11 +32,13 @@ use Rattle.settling.proofs.Hearing.{covered-law}
 abbrev pub turned : Bool → ℕ → (Place → Place) → List Place → List Place
 turned c j f l = cond c (set l j (f (getD l j idle))) l
 
-abbrev pub allTurned : Pulse → Bool → Bool → Bool → Bool → Each → List Place → List Place
-allTurned e a b c d v l =
-    turned d 3 (hearing e (v .d) (any3 (v .a) (v .b) (v .c)))
-    (turned c 2 (hearing e (v .c) (any3 (v .a) (v .b) (v .d)))
-    (turned b 1 (hearing e (v .b) (any3 (v .a) (v .c) (v .d))) (turned a 0 (hearing e (v .a) (any3 (v .b) (v .c) (v .d))) l)))
+-- the first k places, of those that cover the edge by x, hear it
+abbrev pub turnedTo : Pulse → Agreement → ℕ → List Place → List Place
+turnedTo e x zero l = l
+turnedTo e x (suc k) l = turned (getD (x .covers) k false) k (hearing e (getD (x .own) k false) (getD (x .other) k false)) (turnedTo e x k l)
+
+abbrev pub allTurned : Pulse → Bool → Bool → Bool → Bool → List Bool → List Place → List Place
+allTurned e a b c d v l = turnedTo e (record { covers = a ∷ b ∷ c ∷ d ∷ []; own = v; other = othersOf v }) 4 l
 
 pub record OnePost (l : List Place) (j : ℕ) (e : Pulse) (r : List Place) : Type 0 where
   pub at : test (covers (e .tick .0)) (getD l j idle) ≡ true → r ≡ set l j (hearing e (true && test (agrees standard (e .value)) (getD l j idle)) false (getD l j idle))
@@ -46,14 +49,6 @@ pub record AllPost (l : List Place) (w : Words) (i : ℕ) (e : Pulse) (r : List 
 pub either : {A B C : Type 0} → A ⊎ B → (A → C) → (B → C) → C
 either (inl a) f g = f a
 either (inr b) f g = g b
-
--- place j is written if c, which says that it covers the edge; before, it is as in l₀
-pub did : (p : Place → Bool) (c : Bool) (j : ℕ) (f : Place → Place) (l₀ l m : List Place) (y : Place) → c ≡ p (getD l₀ j idle) → getD l j idle ≡ getD l₀ j idle → c ≡ true → m ≡ set l j y
-    → (p (getD l j idle) ≡ true → y ≡ f (getD l j idle)) → m ≡ turned c j f l
-did p c j f l₀ l m y k s h e g = e ∙ ap (set l j) (g (ap p s ∙ sym k ∙ h)) ∙ sym (ap (λ (b : Bool). turned b j f l) h)
-
-pub kept : (c : Bool) (j : ℕ) (f : Place → Place) (l m : List Place) → c ≡ false → m ≡ l → m ≡ turned c j f l
-kept c j f l m h e = e ∙ sym (ap (λ (b : Bool). turned b j f l) h)
 
 -- a place stays where another changes
 stays : (c : Bool) (j k : ℕ) (f : Place → Place) (l : List Place) → (j ≡ k → ⊥) → getD (turned c j f l) k idle ≡ getD l k idle
@@ -66,26 +61,6 @@ stays true j k f l n = go l j k n (f (getD l j idle))
     go (x ∷ l) zero (suc k) n y = refl
     go (x ∷ l) (suc j) zero n y = refl
     go (x ∷ l) (suc j) (suc k) n y = go l j k (λ e. n (ap suc e)) y
-
--- the places as they come to be, one by one
-module _ (a b c : Bool) (f g h : Place → Place) (l m₁ m₂ m₃ : List Place) where
-  pub second-stays : m₁ ≡ turned a 0 f l → getD m₁ 1 idle ≡ getD l 1 idle
-  second-stays e = ap (λ (z : List Place). getD z 1 idle) e ∙ stays a 0 1 f l (λ z. omega arith)
-
-  pub third-stays : m₁ ≡ turned a 0 f l → m₂ ≡ turned b 1 g m₁ → getD m₂ 2 idle ≡ getD l 2 idle
-  third-stays e d =
-      ap (λ (z : List Place). getD z 2 idle) d ∙ stays b 1 2 g m₁ (λ z. omega arith) ∙ ap (λ (z : List Place). getD z 2 idle) e ∙ stays a 0 2 f l (λ z. omega arith)
-
-  pub fourth-stays : m₁ ≡ turned a 0 f l → m₂ ≡ turned b 1 g m₁ → m₃ ≡ turned c 2 h m₂ → getD m₃ 3 idle ≡ getD l 3 idle
-  fourth-stays e d k =
-      ap (λ (z : List Place). getD z 3 idle) k ∙ stays c 2 3 h m₂ (λ z. omega arith) ∙ ap (λ (z : List Place). getD z 3 idle) d ∙ stays b 1 3 g m₁ (λ z. omega arith)
-      ∙ ap (λ (z : List Place). getD z 3 idle) e ∙ stays a 0 3 f l (λ z. omega arith)
-
-pub chain : (e : Pulse) (a b c d : Bool) (v : Each) (l m₁ m₂ m₃ m₄ : List Place) → m₁ ≡ turned a 0 (hearing e (v .a) (any3 (v .b) (v .c) (v .d))) l
-    → m₂ ≡ turned b 1 (hearing e (v .b) (any3 (v .a) (v .c) (v .d))) m₁ → m₃ ≡ turned c 2 (hearing e (v .c) (any3 (v .a) (v .b) (v .d))) m₂
-    → m₄ ≡ turned d 3 (hearing e (v .d) (any3 (v .a) (v .b) (v .c))) m₃ → m₄ ≡ allTurned e a b c d v l
-chain e a b c d v l m₁ m₂ m₃ m₄ h₁ h₂ h₃ h₄ =
-    h₄ ∙ ap (turned d 3 (hearing e (v .d) (any3 (v .a) (v .b) (v .c)))) (h₃ ∙ ap (turned c 2 (hearing e (v .c) (any3 (v .a) (v .b) (v .d)))) (h₂ ∙ ap (turned b 1 (hearing e (v .b) (any3 (v .a) (v .c) (v .d)))) h₁))
 
 -- ---- the four
 
@@ -108,9 +83,9 @@ turn-of : (e : Pulse) (c own other : Bool) (p : Place) → c ≡ test (covers (e
 turn-of e true own other p h = refl
 turn-of e false own other p h = λ i. record { slot = away e (verdict (e .main) own other) (e .tick .0) (p .slot) (covers-in (e .tick .0) p ∙ sym h) i }
 
-turns : (e : Pulse) (a b c d : Bool) (v : Each) (l : List Place) → length l ≡ 4
+turns : (e : Pulse) (a b c d : Bool) (v : List Bool) (l : List Place) → length l ≡ 4
     → four (allTurned e a b c d v l)
-    ≡ record { p0 = cond a (hearing e (v .a) (any3 (v .b) (v .c) (v .d)) (getD l 0 idle)) (getD l 0 idle); p1 = cond b (hearing e (v .b) (any3 (v .a) (v .c) (v .d)) (getD l 1 idle)) (getD l 1 idle); p2 = cond c (hearing e (v .c) (any3 (v .a) (v .b) (v .d)) (getD l 2 idle)) (getD l 2 idle); p3 = cond d (hearing e (v .d) (any3 (v .a) (v .b) (v .c)) (getD l 3 idle)) (getD l 3 idle) }
+    ≡ record { p0 = cond a (hearing e (getD v 0 false) (anyOf v 1 2 3) (getD l 0 idle)) (getD l 0 idle); p1 = cond b (hearing e (getD v 1 false) (anyOf v 0 2 3) (getD l 1 idle)) (getD l 1 idle); p2 = cond c (hearing e (getD v 2 false) (anyOf v 0 1 3) (getD l 2 idle)) (getD l 2 idle); p3 = cond d (hearing e (getD v 3 false) (anyOf v 0 1 2) (getD l 3 idle)) (getD l 3 idle) }
 turns e true true true true v (w ∷ x ∷ y ∷ z ∷ []) s = refl
 turns e true true true false v (w ∷ x ∷ y ∷ z ∷ []) s = refl
 turns e true true false true v (w ∷ x ∷ y ∷ z ∷ []) s = refl
@@ -135,16 +110,16 @@ turns e a b c d v (w ∷ x ∷ y ∷ z ∷ t ∷ l) s = absurd (omega arith)
 
 pub all-dealt : (e : Pulse) (a b c d : Bool) (l : List Place) → length l ≡ 4 → a ≡ test (covers (e .tick .0)) (getD l 0 idle) → b ≡ test (covers (e .tick .0)) (getD l 1 idle)
     → c ≡ test (covers (e .tick .0)) (getD l 2 idle) → d ≡ test (covers (e .tick .0)) (getD l 3 idle)
-    → four (allTurned e a b c d (voicesBy (e .value) (record { a = a; b = b; c = c; d = d }) l) l) ≡ dealt wrapped standard e (four l)
+    → four (allTurned e a b c d (voicesBy (e .value) (a ∷ b ∷ c ∷ d ∷ []) l) l) ≡ dealt wrapped standard e (four l)
 all-dealt e a b c d l s ha hb hc hd =
-    let v = voicesBy (e .value) (record { a = a; b = b; c = c; d = d }) l in
+    let v = voicesBy (e .value) (a ∷ b ∷ c ∷ d ∷ []) l in
     let u = e .tick .0 in
     let p0 = getD l 0 idle in
     let p1 = getD l 1 idle in
     let p2 = getD l 2 idle in
     let p3 = getD l 3 idle in
     turns e a b c d v l s
-    ∙ deal-by wrapped standard e (four l) (positionIn u p0) (positionIn u p1) (positionIn u p2) (positionIn u p3) (v .a) (v .b) (v .c) (v .d) (any3 (v .b) (v .c) (v .d)) (any3 (v .a) (v .c) (v .d)) (any3 (v .a) (v .b) (v .d)) (any3 (v .a) (v .b) (v .c)) (cond a (hearing e (v .a) (any3 (v .b) (v .c) (v .d)) p0) p0) (cond b (hearing e (v .b) (any3 (v .a) (v .c) (v .d)) p1) p1) (cond c (hearing e (v .c) (any3 (v .a) (v .b) (v .d)) p2) p2) (cond d (hearing e (v .d) (any3 (v .a) (v .b) (v .c)) p3) p3) refl refl refl refl (voice a p0 ha) (voice b p1 hb) (voice c p2 hc) (voice d p3 hd) refl refl refl refl (turn-of e a (v .a) (any3 (v .b) (v .c) (v .d)) p0 ha) (turn-of e b (v .b) (any3 (v .a) (v .c) (v .d)) p1 hb) (turn-of e c (v .c) (any3 (v .a) (v .b) (v .d)) p2 hc) (turn-of e d (v .d) (any3 (v .a) (v .b) (v .c)) p3 hd)
+    ∙ deal-by wrapped standard e (four l) (positionIn u p0) (positionIn u p1) (positionIn u p2) (positionIn u p3) (getD v 0 false) (getD v 1 false) (getD v 2 false) (getD v 3 false) (anyOf v 1 2 3) (anyOf v 0 2 3) (anyOf v 0 1 3) (anyOf v 0 1 2) (cond a (hearing e (getD v 0 false) (anyOf v 1 2 3) p0) p0) (cond b (hearing e (getD v 1 false) (anyOf v 0 2 3) p1) p1) (cond c (hearing e (getD v 2 false) (anyOf v 0 1 3) p2) p2) (cond d (hearing e (getD v 3 false) (anyOf v 0 1 2) p3) p3) refl refl refl refl (voice a p0 ha) (voice b p1 hb) (voice c p2 hc) (voice d p3 hd) refl refl refl refl (turn-of e a (getD v 0 false) (anyOf v 1 2 3) p0 ha) (turn-of e b (getD v 1 false) (anyOf v 0 2 3) p1 hb) (turn-of e c (getD v 2 false) (anyOf v 0 1 3) p2 hc) (turn-of e d (getD v 3 false) (anyOf v 0 1 2) p3 hd)
   where
     voice : (x : Bool) (p : Place) → x ≡ test (covers (e .tick .0)) p
         → (x && test (agrees standard (e .value)) p) ≡ (isPosition (positionIn (e .tick .0) p) && test (agrees standard (e .value)) p)
@@ -155,7 +130,7 @@ all-dealt e a b c d l s ha hb hc hd =
 oneTurned : Pulse → ℕ → List Place → List Place
 oneTurned e j l = set l j (hearing e (true && test (agrees standard (e .value)) (getD l j idle)) false (getD l j idle))
 
-one-of : (e : Pulse) (a b c d : Bool) (l : List Place) → (a || any3 b c d) ≡ true → twoOf a b c d ≡ false → oneTurned e (whichOf b c d) l ≡ allTurned e a b c d (voicesBy (e .value) (record { a = a; b = b; c = c; d = d }) l) l
+one-of : (e : Pulse) (a b c d : Bool) (l : List Place) → (a || any3 b c d) ≡ true → twoOf a b c d ≡ false → oneTurned e (whichOf b c d) l ≡ allTurned e a b c d (voicesBy (e .value) (a ∷ b ∷ c ∷ d ∷ []) l) l
 unfolding oneTurned
 one-of e true false false false l h k = refl
 one-of e false true false false l h k = refl
@@ -184,7 +159,7 @@ only p false true true d l h k ha hb hc hd = absurd (impossible k)
 only p false true false true l h k ha hb hc hd = absurd (impossible k)
 only p false false true true l h k ha hb hc hd = absurd (impossible k)
 
-none-of : (e : Pulse) (a b c d : Bool) (l : List Place) → (a || any3 b c d) ≡ false → l ≡ allTurned e a b c d (voicesBy (e .value) (record { a = a; b = b; c = c; d = d }) l) l
+none-of : (e : Pulse) (a b c d : Bool) (l : List Place) → (a || any3 b c d) ≡ false → l ≡ allTurned e a b c d (voicesBy (e .value) (a ∷ b ∷ c ∷ d ∷ []) l) l
 none-of e false false false false l h = refl
 none-of e true b c d l h = absurd (impossible h)
 none-of e false true c d l h = absurd (impossible h)
@@ -223,81 +198,77 @@ module _ (l : List Place) (w : Words) (i : ℕ) (e : Pulse) (s : length l ≡ 4)
   deal-none-law x q aw eq nq =
       record { at = λ k. ap four (none-of e (bit (w .a) i) (bit (w .b) i) (bit (w .c) i) (bit (w .d) i) l (sym (aw .at i) ∙ sym eq ∙ nq)) ∙ dealt-by k }
 
--- ---- place by place
-
--- place j hears the edge e if c, and stays if not
-pub record Turns (c : Bool) (j : ℕ) (e : Pulse) (own other : Bool) (l m : List Place) : Type 0 where
-  pub place : Place
-  pub did : c ≡ true → m ≡ set l j place
-  pub is : c ≡ true → test (covers (e .tick .0)) (getD l j idle) ≡ true → place ≡ hearing e own other (getD l j idle)
-  pub stays : c ≡ false → m ≡ l
-
-pub turns-did : (c : Bool) (j : ℕ) (e : Pulse) (own other : Bool) (l m : List Place) (y : Place) → c ≡ true → m ≡ set l j y
-    → y ≡ heardBy e own other (getD l j idle) → Turns c j e own other l m
-turns-did c j e own other l m y h k f =
-    record {
-      place = y;
-      did = λ z. k;
-      is = λ z q. f ∙ covered-law e own other (getD l j idle) q;
-      stays = λ z. absurd (impossible (sym h ∙ z));
-    }
-
-pub turns-not : (c : Bool) (j : ℕ) (e : Pulse) (own other : Bool) (l m : List Place) → c ≡ false → m ≡ l → Turns c j e own other l m
-turns-not c j e own other l m h k =
-    record { place = idle; did = λ z. absurd (impossible (sym z ∙ h)); is = λ z. absurd (impossible (sym z ∙ h)); stays = λ z. k }
-
-turned-by : (c : Bool) (j : ℕ) (e : Pulse) (own other : Bool) (l₀ l m : List Place) → c ≡ test (covers (e .tick .0)) (getD l₀ j idle) → getD l j idle ≡ getD l₀ j idle
-    → Turns c j e own other l m → m ≡ turned c j (hearing e own other) l
-turned-by c j e own other l₀ l m ec same h = go c refl
-  where
-    go : (b : Bool) → c ≡ b → m ≡ turned c j (hearing e own other) l
-    go true z = did (test (covers (e .tick .0))) c j (hearing e own other) l₀ l m (h .place) ec same z (h .did z) (h .is z)
-    go false z = kept c j (hearing e own other) l m z (h .stays z)
-
-turns-size : (c : Bool) (j : ℕ) (e : Pulse) (own other : Bool) (l m : List Place) → Turns c j e own other l m → length m ≡ length l
-turns-size c j e own other l m h = go c refl
-  where
-    go : (b : Bool) → c ≡ b → length m ≡ length l
-    go true z = ap (length {A = Place}) (h .did z) ∙ length-set l j (h .place)
-    go false z = ap (length {A = Place}) (h .stays z)
-
 -- the edge e has gone to the places l, which are now m
 pub record Dealt (l : List Place) (w : Words) (i : ℕ) (e : Pulse) (m : List Place) : Type 0 where
   pub size : length m ≡ length l
   pub deal : DealPost l w i e m
 
--- the edge goes to the four places, one after the other; x says who covers it and who agrees
-pub deals-four : (l m₁ m₂ m₃ m₄ : List Place) (w : Words) (i : ℕ) (e : Pulse) → length l ≡ 4 → (x : Agreement) → x ≡ agreementBy (e .value) (coversIn w i) l
-    → Turns (x .covers .a) 0 e (x .own .a) (x .other .a) l m₁ → Turns (x .covers .b) 1 e (x .own .b) (x .other .b) m₁ m₂ → Turns (x .covers .c) 2 e (x .own .c) (x .other .c) m₂ m₃
-    → Turns (x .covers .d) 3 e (x .own .d) (x .other .d) m₃ m₄ → Dealt l w i e m₄
-deals-four l m₁ m₂ m₃ m₄ w i e s x ex ta tb tc td =
-    let a = bit (w .a) i in
-    let b = bit (w .b) i in
-    let c = bit (w .c) i in
-    let d = bit (w .d) i in
-    let v = voicesBy (e .value) (coversIn w i) l in
-    let o = othersOf v in
-    let ta′ : Turns a 0 e (v .a) (o .a) l m₁ = subst (λ (y : Agreement). Turns (y .covers .a) 0 e (y .own .a) (y .other .a) l m₁) ex ta in
-    let tb′ : Turns b 1 e (v .b) (o .b) m₁ m₂ = subst (λ (y : Agreement). Turns (y .covers .b) 1 e (y .own .b) (y .other .b) m₁ m₂) ex tb in
-    let tc′ : Turns c 2 e (v .c) (o .c) m₂ m₃ = subst (λ (y : Agreement). Turns (y .covers .c) 2 e (y .own .c) (y .other .c) m₂ m₃) ex tc in
-    let td′ : Turns d 3 e (v .d) (o .d) m₃ m₄ = subst (λ (y : Agreement). Turns (y .covers .d) 3 e (y .own .d) (y .other .d) m₃ m₄) ex td in
-    record {
-      size =
-          turns-size d 3 e (v .d) (o .d) m₃ m₄ td′ ∙ turns-size c 2 e (v .c) (o .c) m₂ m₃ tc′ ∙ turns-size b 1 e (v .b) (o .b) m₁ m₂ tb′ ∙ turns-size a 0 e (v .a) (o .a) l m₁ ta′;
-      deal =
-          deal-all-law l w i e s m₄
-          (record {
-            at = λ k.
-                let fa : Place → Place = hearing e (v .a) (o .a) in
-                let fb : Place → Place = hearing e (v .b) (o .b) in
-                let fc : Place → Place = hearing e (v .c) (o .c) in
-                let e0 = turned-by a 0 e (v .a) (o .a) l l m₁ (k .a) refl ta′ in
-                let e1 = turned-by b 1 e (v .b) (o .b) l m₁ m₂ (k .b) (second-stays a b c fa fb fc l m₁ l l e0) tb′ in
-                let e2 = turned-by c 2 e (v .c) (o .c) l m₂ m₃ (k .c) (third-stays a b c fa fb fc l m₁ m₂ l e0 e1) tc′ in
-                let e3 = turned-by d 3 e (v .d) (o .d) l m₃ m₄ (k .d) (fourth-stays a b c fa fb fc l m₁ m₂ m₃ e0 e1 e2) td′ in
-                chain e a b c d v l m₁ m₂ m₃ m₄ e0 e1 e2 e3;
-          });
-    }
+-- ---- place by place
+
+-- a place that is still to come is as it was
+not-yet : (e : Pulse) (x : Agreement) (l : List Place) (k j : ℕ) → k ≤ j → getD (turnedTo e x k l) j idle ≡ getD l j idle
+not-yet e x l zero j h = refl
+not-yet e x l (suc k) j h =
+    stays (getD (x .covers) k false) k j (hearing e (getD (x .own) k false) (getD (x .other) k false)) (turnedTo e x k l) (λ z. omega arith)
+    ∙ not-yet e x l k j (omega arith)
+
+marked-at : (w : Words) (i : ℕ) (p : Reply → Bool) (l : List Place) → Marked w i p l → (k : ℕ) → k < 4 → getD (coversIn w i) k false ≡ test p (getD l k idle)
+marked-at w i p l m zero h = m .a
+marked-at w i p l m (suc zero) h = m .b
+marked-at w i p l m (suc (suc zero)) h = m .c
+marked-at w i p l m (suc (suc (suc zero))) h = m .d
+marked-at w i p l m (suc (suc (suc (suc k)))) h = absurd (omega arith)
+
+-- the edge e has gone to the first k of the places l, which are now m
+pub record Turning (l : List Place) (w : Words) (i : ℕ) (e : Pulse) (k : ℕ) (m : List Place) : Type 0 where
+  pub size : length m ≡ length l
+  pub is : Marked w i (covers (e .tick .0)) l → m ≡ turnedTo e (agreementBy (e .value) (coversIn w i) l) k l
+
+pub turning-none : (l : List Place) (w : Words) (i : ℕ) (e : Pulse) → Turning l w i e 0 l
+turning-none l w i e = record { size = refl; is = λ h. refl }
+
+-- place k hears it if it covers it, by x
+module _ (l : List Place) (w : Words) (i : ℕ) (e : Pulse) (x : Agreement) (ex : x ≡ agreementBy (e .value) (coversIn w i) l) (k : ℕ) (m : List Place) (t : Turning l w i e k m) where
+  abbrev hears : Agreement → Place → Place
+  hears y = hearing e (getD (y .own) k false) (getD (y .other) k false)
+
+  counted : (r : List Place) → Turning l w i e (suc k) r → Turning l w i e (k + 1) r
+  counted r = subst (λ (n : ℕ). Turning l w i e n r) (sym (add-one k))
+
+  pub turning-heard : k < 4 → getD (x .covers) k false ≡ true → (y : Place) → y ≡ heardBy e (getD (x .own) k false) (getD (x .other) k false) (getD m k idle)
+      → Turning l w i e (k + 1) (set m k y)
+  turning-heard low c y h =
+      counted (set m k y)
+      (record {
+        size = length-set m k y ∙ t .size;
+        is = λ z.
+            let a = agreementBy (e .value) (coversIn w i) l in
+            let u = turnedTo e a k l in
+            let ca : getD (a .covers) k false ≡ true = ap (λ (b : Agreement). getD (b .covers) k false) (sym ex) ∙ c in
+            let same : getD m k idle ≡ getD l k idle = ap (λ (q : List Place). getD q k idle) (t .is z) ∙ not-yet e a l k k (omega arith) in
+            let there : test (covers (e .tick .0)) (getD m k idle) ≡ true =
+            ap (test (covers (e .tick .0))) same ∙ sym (marked-at w i (covers (e .tick .0)) l z k low) ∙ ca in
+            let became : y ≡ hears a (getD u k idle) =
+            h ∙ covered-law e (getD (x .own) k false) (getD (x .other) k false) (getD m k idle) there ∙ ap (λ (b : Agreement). hears b (getD m k idle)) ex
+            ∙ ap (λ (q : List Place). hears a (getD q k idle)) (t .is z) in
+            ap₂ (λ (q : List Place) (p : Place). set q k p) (t .is z) became ∙ sym (ap (λ (b : Bool). turned b k (hears a) u) ca);
+      })
+
+  pub turning-passed : getD (x .covers) k false ≡ false → Turning l w i e (k + 1) m
+  turning-passed c =
+      counted m
+      (record {
+        size = t .size;
+        is = λ z.
+            let a = agreementBy (e .value) (coversIn w i) l in
+            let ca : getD (a .covers) k false ≡ false = ap (λ (b : Agreement). getD (b .covers) k false) (sym ex) ∙ c in
+            t .is z ∙ sym (ap (λ (b : Bool). turned b k (hears a) (turnedTo e a k l)) ca);
+      })
+
+-- it has gone to all four
+pub deals-four : (l m : List Place) (w : Words) (i : ℕ) (e : Pulse) → length l ≡ 4 → (k : ℕ) → k ≡ 4 → Turning l w i e k m → Dealt l w i e m
+deals-four l m w i e s k h t =
+    record { size = t .size; deal = deal-all-law l w i e s m (record { at = λ z. t .is z ∙ ap (λ (n : ℕ). turnedTo e (agreementBy (e .value) (coversIn w i) l) n l) h }) }
 
 -- it goes to one place
 pub deals-one : (l : List Place) (w : Words) (i : ℕ) (e : Pulse) → length l ≡ 4 → (t x j : ℕ) (p q own : Bool) (y : Place) → TwiceWord w t → p ≡ bit t i → p ≡ false → AnyWord w x → q ≡ bit x i

@@ -159,17 +159,12 @@ pub fn work(
             }
             if marked(both, i) {
                 let v = agreement_of(places, on, i, e.value);
-                if v.covers.a {
-                    places[0] = heard(places[0], e, v.own.a, v.other.a);
-                }
-                if v.covers.b {
-                    places[1] = heard(places[1], e, v.own.b, v.other.b);
-                }
-                if v.covers.c {
-                    places[2] = heard(places[2], e, v.own.c, v.other.c);
-                }
-                if v.covers.d {
-                    places[3] = heard(places[3], e, v.own.d, v.other.d);
+                let mut k: usize = 0;
+                while k < 4 {
+                    if v.covers[k] {
+                        places[k] = heard(places[k], e, v.own[k], v.other[k]);
+                    }
+                    k += 1;
                 }
             } else {
                 if marked(any_word(on), i) {
