@@ -5,7 +5,7 @@ ghost use mathlib.Core.Bool.{_&&_};
 ghost use Rattle.rules.specs.Replies.{agrees};
 ghost use Rattle.rules.specs.Settings.{standard};
 ghost use Rattle.places.specs.Places.{test};
-ghost use Rattle.agreement.specs.Voices.{coversIn, voicesBy, othersOf, agreementBy};
+ghost use Rattle.agreement.specs.Voices.{coversIn, agreementBy};
 use marking::Words;
 use places::any3;
 use plane::marked;
@@ -29,43 +29,6 @@ pub fn speaks(c: bool, p: Place, v: u8) -> bool
     }
 }
 
-// Which places cover the edge at tick i of a block.
-fn covers_in(on: Words, i: u32) -> [bool; 4]
-    requires { ⌜ i < 64 ⌝ }
-    ensures { λ r. ⌜ r ≡ coversIn on i ⌝ }
-{
-    [
-        marked(on.a, i),
-        marked(on.b, i),
-        marked(on.c, i),
-        marked(on.d, i),
-    ]
-}
-
-// Of the places that cover an edge, which c says, those whose reference its value agrees with.
-fn voices_of(p: [Place; 4], c: [bool; 4], v: u8) -> [bool; 4]
-    ensures { λ r. ⌜ r ≡ voicesBy v c p ⌝ }
-{
-    [
-        speaks(c[0], p[0], v),
-        speaks(c[1], p[1], v),
-        speaks(c[2], p[2], v),
-        speaks(c[3], p[3], v),
-    ]
-}
-
-// Whether another than each place does.
-fn others_of(v: [bool; 4]) -> [bool; 4]
-    ensures { λ r. ⌜ r ≡ othersOf v ⌝ }
-{
-    [
-        any3(v[1], v[2], v[3]),
-        any3(v[0], v[2], v[3]),
-        any3(v[0], v[1], v[3]),
-        any3(v[0], v[1], v[2]),
-    ]
-}
-
 // Which places cover an edge; of these, whose reference its value agrees with, and beside whom it agrees with another's.
 pub struct Agreement {
     pub covers: [bool; 4],
@@ -77,8 +40,23 @@ pub fn agreement_of(p: [Place; 4], on: Words, i: u32, v: u8) -> Agreement
     requires { ⌜ i < 64 ⌝ }
     ensures { λ r. ⌜ r ≡ agreementBy v (coversIn on i) p ⌝ }
 {
-    let covers = covers_in(on, i);
-    let own = voices_of(p, covers, v);
-    let other = others_of(own);
+    let covers = [
+        marked(on.a, i),
+        marked(on.b, i),
+        marked(on.c, i),
+        marked(on.d, i),
+    ];
+    let own = [
+        speaks(covers[0], p[0], v),
+        speaks(covers[1], p[1], v),
+        speaks(covers[2], p[2], v),
+        speaks(covers[3], p[3], v),
+    ];
+    let other = [
+        any3(own[1], own[2], own[3]),
+        any3(own[0], own[2], own[3]),
+        any3(own[0], own[1], own[3]),
+        any3(own[0], own[1], own[2]),
+    ];
     Agreement { covers, own, other }
 }
