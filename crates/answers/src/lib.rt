@@ -1,10 +1,12 @@
 // One line: what it makes of the sweep, and what it prints.
 ghost use Prim.Native.Nat.{_+_, _≤_};
+ghost use mathlib.Core.Path.{_≡_};
 ghost use lib.ListN.{length};
-ghost use Rattle.steps.specs.Outcomes.{openedAt, takenAt, closedAt};
-ghost use Rattle.steps.specs.Post.{AnswerPost, StepPost, pieceOf, saidAt, countIn};
+ghost use Rattle.steps.specs.Outcomes.{stops, openedAt, takenAt, closedAt};
+ghost use Rattle.steps.specs.Post.{AnswerPost, StepPost, pieceOf, saidAt, numberOf, countIn};
 use calls::Answer;
 use frames::has_room;
+use frames::refusal_line;
 use processor::Processor;
 use reading::Frame;
 use reading::Line;
@@ -12,14 +14,29 @@ use reading::read;
 use steps::MOST;
 use steps::Step;
 use steps::Stepped;
-use steps::number_of;
 use steps::show_close;
 use steps::show_take;
-use steps::stop;
-use steps::with_processor;
 use sweep::close;
 use sweep::open;
 use sweep::take;
+
+fn with_processor(step: Step, processor: Processor) -> Stepped
+    ensures { λ r. ⌜ r ≡ record { step = step; processor = processor } ⌝ }
+{
+    Stepped { step, processor }
+}
+
+// A refusal stops the survey.
+fn stop(p: Processor, number: u8, out: &mut [u8], at: usize) -> Stepped
+    requires { ⌜ at + 339 ≤ length (now out) ⌝ }
+    ensures { λ r. ⌜ AnswerPost (λ σ. stops number) p at (now (out .entry)) r (now (out .exit)) ⌝ }
+{
+    let end = refusal_line(number, out, at);
+    Stepped {
+        step: Step::Stops(number, end),
+        processor: p,
+    }
+}
 
 // `01` during a sweep starts afresh.
 fn opened(p: Processor, mode: u8, azimuth: u16, out: &mut [u8], at: usize) -> Stepped
@@ -55,6 +72,15 @@ fn closed(p: Processor, out: &mut [u8], at: usize) -> Stepped
     let answer = c.answer;
     let step = show_close(answer, c.totals, &handed, out, at);
     with_processor(step, c.processor)
+}
+
+fn number_of(line: Line) -> u8
+    ensures { λ r. ⌜ r ≡ numberOf line ⌝ }
+{
+    match line {
+        Line::Frame(_) => 0,
+        Line::Refused(number) => number,
+    }
 }
 
 // What a line's frame, or the number with which the line is refused, makes of the sweep, and what it prints.

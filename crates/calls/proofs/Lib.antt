@@ -1,3 +1,4 @@
+-- Laws of what the operations return, and demand 3.
 pub mod Opening
 pub mod Calls
 pub mod Closing

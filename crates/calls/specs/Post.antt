@@ -1,7 +1,7 @@
 -- What each operation returns and leaves in its buffer. The equations hold for every processor that belongs to a sweep (`Made`);
 -- for a processor value that no calls make, an operation is safe and ends.
-use Prim.Native.Nat.{ℕ, _+_, _-_}
-use mathlib.Core.List.{List, [], _++_}
+use Prim.Native.Nat.{ℕ, _-_}
+use mathlib.Core.List.{List, []}
 use mathlib.Core.Path.{_≡_}
 use lib.ListN.{length}
 use Rattle.rules.specs.Settings.{standard}
@@ -18,7 +18,6 @@ use Rattle.calls.specs.declared.Opened.{Opened}
 use Rattle.calls.specs.declared.Taken.{Taken}
 use Rattle.calls.specs.declared.Closed.{Closed}
 use Rattle.processor.specs.State.{Sweep, none, running, processorOf, idleProcessor, runningProcessor, isOpen, takenBy, Made}
-use Rattle.front.specs.Words.{recentOf}
 
 -- ---- open. "No processor comes back": a refused opening's is the idle one.
 
@@ -60,14 +59,6 @@ takeBufferAs (refused k) σ P b = b
 pub record TakePost (p : Processor) (P : Trace) (b : List ℕ) (r : Taken) (b′ : List ℕ) : Type 0 where
   pub result : (σ : Sweep) → Made σ p → r ≡ takeAs (takeAnswerAt σ P (length b)) σ P
   pub buffer : (σ : Sweep) → Made σ p → b′ ≡ takeBufferAs (takeAnswerAt σ P (length b)) σ P b
-
--- ---- a take that finds nothing
-
--- the piece P behind the trace T hands out nothing, and leaves all but the count of ticks and the kept values as it is
-pub record Rests (p : Processor) (mode azimuth : ℕ) (T P : Trace) : Type 0 where
-  pub none-due : fresh standard T P ≡ []
-  pub processor : record { mode = p .mode; azimuth = p .azimuth; taken = p .taken + length (P .flags); front = p .front; recent = recentOf (T .values ++ P .values); places = p .places; counts = p .counts }
-      ≡ runningProcessor mode azimuth (T ⧺ P)
 
 -- ---- close
 

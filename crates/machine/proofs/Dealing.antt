@@ -232,13 +232,13 @@ module _ (l : List Place) (w : Words) (i : ℕ) (e : Pulse) (x : Agreement) (ex 
   abbrev hears : Agreement → Place → Place
   hears y = hearing e (getD (y .own) k false) (getD (y .other) k false)
 
-  counted : (r : List Place) → Turning l w i e (suc k) r → Turning l w i e (k + 1) r
-  counted r = subst (λ (n : ℕ). Turning l w i e n r) (sym (add-one k))
+  one-more : (r : List Place) → Turning l w i e (suc k) r → Turning l w i e (k + 1) r
+  one-more r = subst (λ (n : ℕ). Turning l w i e n r) (sym (add-one k))
 
   pub turning-heard : k < 4 → getD (x .covers) k false ≡ true → (y : Place) → y ≡ heardBy e (getD (x .own) k false) (getD (x .other) k false) (getD m k idle)
       → Turning l w i e (k + 1) (set m k y)
   turning-heard low c y h =
-      counted (set m k y)
+      one-more (set m k y)
       (record {
         size = length-set m k y ∙ t .size;
         is = λ z.
@@ -256,7 +256,7 @@ module _ (l : List Place) (w : Words) (i : ℕ) (e : Pulse) (x : Agreement) (ex 
 
   pub turning-passed : getD (x .covers) k false ≡ false → Turning l w i e (k + 1) m
   turning-passed c =
-      counted m
+      one-more m
       (record {
         size = t .size;
         is = λ z.

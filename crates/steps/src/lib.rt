@@ -1,16 +1,11 @@
-// What a line makes of a survey, and what is printed of an answer. `specs/Outcomes.antt` says what each kind of line is to make.
-ghost use Prim.Native.Nat.{_+_, _≤_};
-ghost use mathlib.Core.Path.{_≡_};
-ghost use lib.ListN.{length};
-ghost use Rattle.steps.specs.Outcomes.{stops};
-ghost use Rattle.steps.specs.Post.{AnswerPost, TakeShown, CloseShown, RestPost, numberOf};
+// What is printed of an answer, and whether the survey goes on. `specs/Outcomes.antt` says what each kind of line is to make of it.
+ghost use Rattle.steps.specs.Post.{TakeShown, CloseShown, RestPost};
 use calls::Answer;
 use frames::has_room;
 use frames::refusal_line;
 use frames::reply_lines;
 use frames::totals_line;
 use processor::Processor;
-use reading::Line;
 use rules::Totals;
 
 // Eight replies of 39 bytes and the totals, 27 bytes: the most that a line prints.
@@ -27,24 +22,6 @@ pub enum Step {
 pub struct Stepped {
     pub step: Step,
     pub processor: Processor,
-}
-
-pub fn with_processor(step: Step, processor: Processor) -> Stepped
-    ensures { λ r. ⌜ r ≡ record { step = step; processor = processor } ⌝ }
-{
-    Stepped { step, processor }
-}
-
-// A refusal stops the survey.
-pub fn stop(p: Processor, number: u8, out: &mut [u8], at: usize) -> Stepped
-    requires { ⌜ at + 339 ≤ length (now out) ⌝ }
-    ensures { λ r. ⌜ AnswerPost (λ σ. stops number) p at (now (out .entry)) r (now (out .exit)) ⌝ }
-{
-    let end = refusal_line(number, out, at);
-    Stepped {
-        step: Step::Stops(number, end),
-        processor: p,
-    }
 }
 
 // What a take prints: its replies stand in the buffer that it was lent.
@@ -77,15 +54,6 @@ pub fn show_close(answer: Answer, totals: Totals, handed: &[u8], out: &mut [u8],
             let end = totals_line(totals, out, place);
             Step::Goes(end)
         }
-    }
-}
-
-pub fn number_of(line: Line) -> u8
-    ensures { λ r. ⌜ r ≡ numberOf line ⌝ }
-{
-    match line {
-        Line::Frame(_) => 0,
-        Line::Refused(number) => number,
     }
 }
 

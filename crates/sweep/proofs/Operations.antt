@@ -9,9 +9,7 @@ use lib.Dec.{ltb}
 use lib.ListN.{length, getD, replicate, length-append, length-replicate}
 use borrow.Author.Tests.{lt-ltb, le-ltb, ltb-false}
 use Rattle.rules.specs.declared.Reply.{Reply}
-use Rattle.rules.specs.declared.Counts.{Counts}
 use Rattle.places.specs.Four.{Machine}
-use Rattle.rules.specs.declared.Totals.{Totals}
 use Rattle.rules.specs.Settings.{standard}
 use Rattle.rules.specs.Lists.{All}
 use Rattle.rules.specs.Samples.{Trace, _⧺_}
@@ -20,7 +18,6 @@ use Rattle.rules.specs.Records.{records, totals, replies}
 use Rattle.rules.specs.Calls.{Answer as RulesAnswer, accepted, refused, takeAnswer, closeAnswer, fresh, rest, silence}
 use Rattle.rules.proofs.PastEnd.{rest-silence, past-end, after-silence}
 use Rattle.rules.specs.Buffers.{over, over-at}
-use Rattle.calls.specs.declared.Answer.{Answer}
 use Rattle.calls.specs.declared.Answer.the-variants.{Accepted, Refused}
 use Rattle.processor.specs.declared.Processor.{Processor}
 use Rattle.calls.specs.declared.Taken.{Taken}

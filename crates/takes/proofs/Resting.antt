@@ -11,7 +11,7 @@ use Rattle.rules.specs.declared.Place.{Place}
 use Rattle.rules.specs.declared.Reply.{Reply}
 use Rattle.rules.specs.Settings.{standard}
 use Rattle.rules.specs.Lists.{All}
-use Rattle.rules.specs.Samples.{Trace, A, P, N, M, odd}
+use Rattle.rules.specs.Samples.{Trace, _⧺_, A, P, N, M, odd}
 use Rattle.rules.specs.Calls.{takeRoom, fresh}
 use Rattle.packing.specs.declared.Planes.{Planes}
 use Rattle.plane.specs.Words.{HoldsPart}
@@ -29,13 +29,18 @@ use Rattle.places.specs.Four.{Machine}
 use Rattle.places.specs.Places.{idle}
 use Rattle.blocks.specs.Steps.{noneDue, Fed, quiet}
 use Rattle.blocks.specs.Feeding.{BlocksPost}
-use Rattle.calls.specs.Post.{Rests}
 use Rattle.processor.specs.Arrays.{listed, progressOf}
 use Rattle.blocks.proofs.Quiet.{Quiet, quiet-is}
 use Rattle.blocks.proofs.Blank.{none-due-before, stays-law}
 use Rattle.blocks.proofs.Feeding.{Feeding, feed-start, feed-next, feed-end}
 use Rattle.pieces.proofs.Pieces.{enters-piece}
 use Rattle.processor.proofs.ProcessorLaws.{mode-of, azimuth-of, taken-of, front-of, recent-of, machine-of, four-of}
+
+-- the piece P behind the trace T hands out nothing, and leaves all but the count of ticks and the kept values as it is
+pub record Rests (p : Processor) (mode azimuth : ℕ) (T P : Trace) : Type 0 where
+  pub none-due : fresh standard T P ≡ []
+  pub processor : record { mode = p .mode; azimuth = p .azimuth; taken = p .taken + length (P .flags); front = p .front; recent = recentOf (T .values ++ P .values); places = p .places; counts = p .counts }
+      ≡ runningProcessor mode azimuth (T ⧺ P)
 
 -- ---- one tick
 

@@ -4,13 +4,6 @@ use Rattle.steps.specs.Post.{saidAt}
 use borrow.Author.Needs.{needs}
 use Rattle.answers.proofs.answer_line.Statement.{statement}
 use Rattle.answers.proofs.answer_line.Tie as tie
-use Rattle.answers.proofs.answer_line.Reads as reads
-use Rattle.answers.proofs.answer_line.Lts as lts
-use Rattle.answers.proofs.closed.Reads as closed-reads
-use Rattle.steps.proofs.number_of.Reads as number-of-reads
-use Rattle.answers.proofs.opened.Reads as opened-reads
-use Rattle.steps.proofs.stop.Reads as stop-reads
-use Rattle.answers.proofs.taken.Reads as taken-reads
 
 enum-known-line : tie.Need-enum-known-line
 enum-known-line c = search needs

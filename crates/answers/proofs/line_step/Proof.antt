@@ -7,10 +7,6 @@ use Rattle.steps.proofs.Answering.{full-post, flags-lent, values-lent, said-mos
 use borrow.Author.Needs.{needs}
 use Rattle.answers.proofs.line_step.Statement.{statement}
 use Rattle.answers.proofs.line_step.Tie as tie
-use Rattle.answers.proofs.line_step.Reads as reads
-use Rattle.answers.proofs.line_step.Lts as lts
-use Rattle.reading.proofs.read.Reads as read-reads
-use Rattle.answers.proofs.answer_line.Reads as answer-line-reads
 
 has-room-requires : tie.Need-has-room-requires
 has-room-requires c κs = search needs

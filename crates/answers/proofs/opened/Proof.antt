@@ -2,10 +2,6 @@ use Rattle.steps.proofs.Answering.{answer-as, open-refused, open-accepted}
 use borrow.Author.Needs.{needs}
 use Rattle.answers.proofs.opened.Statement.{statement}
 use Rattle.answers.proofs.opened.Tie as tie
-use Rattle.answers.proofs.opened.Reads as reads
-use Rattle.answers.proofs.opened.Lts as lts
-use Rattle.steps.proofs.stop.Reads as stop-reads
-use Rattle.sweep.proofs.open.Reads as open-reads
 
 open-requires : tie.Need-open-requires
 open-requires c κs = search needs

@@ -3,9 +3,6 @@ use native.Mathlib.Omega.{arith}
 use Prim.Native.Nat.{_-_}
 use Rattle.characters.proofs.are_digits.Statement.{statement}
 use Rattle.characters.proofs.are_digits.Tie as tie
-use Rattle.characters.proofs.are_digits.Reads as reads
-use Rattle.characters.proofs.are_digits.Lts as lts
-use Rattle.characters.proofs.is_digit.Reads as is-digit-reads
 
 abbrev Inv-loop : tie.InvT-loop
 Inv-loop line n all₀ i₀ all i = Seen line n i all

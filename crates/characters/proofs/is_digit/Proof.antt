@@ -1,8 +1,6 @@
 use Rattle.characters.proofs.Digits.{digit-by-tests}
 use Rattle.characters.proofs.is_digit.Statement.{statement}
 use Rattle.characters.proofs.is_digit.Tie as tie
-use Rattle.characters.proofs.is_digit.Reads as reads
-use Rattle.characters.proofs.is_digit.Lts as lts
 
 returns : tie.Need-returns
 returns c = digit-by-tests (c .args .c)

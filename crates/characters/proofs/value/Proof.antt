@@ -2,8 +2,6 @@ use Rattle.characters.proofs.Digits.{digit-by-bits}
 use borrow.Author.Needs.{needs}
 use Rattle.characters.proofs.value.Statement.{statement}
 use Rattle.characters.proofs.value.Tie as tie
-use Rattle.characters.proofs.value.Reads as reads
-use Rattle.characters.proofs.value.Lts as lts
 
 mul-result : tie.Need-mul-result
 mul-result c = search needs

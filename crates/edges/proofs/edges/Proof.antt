@@ -2,10 +2,6 @@
 use borrow.Author.Needs.{needs}
 use Rattle.edges.proofs.edges.Statement.{statement}
 use Rattle.edges.proofs.edges.Tie as tie
-use Rattle.edges.proofs.edges.Reads as reads
-use Rattle.edges.proofs.edges.Lts as lts
-use Rattle.edges.proofs.long.Reads as long-reads
-use Rattle.edges.proofs.no_trail.Reads as no-trail-reads
 use Rattle.edges.proofs.EdgeWords.{edges-hold}
 
 no-trail-requires : tie.Need-no-trail-requires

@@ -3,8 +3,6 @@ use native.Mathlib.Omega.{arith}
 use Prim.Native.Nat.{_-_}
 use Rattle.ends.proofs.has_newline.Statement.{statement}
 use Rattle.ends.proofs.has_newline.Tie as tie
-use Rattle.ends.proofs.has_newline.Reads as reads
-use Rattle.ends.proofs.has_newline.Lts as lts
 
 abbrev Inv-loop : tie.InvT-loop
 Inv-loop input from seen₀ k₀ seen k = Noticed input from k seen

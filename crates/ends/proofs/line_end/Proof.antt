@@ -4,9 +4,6 @@ use lib.ListN.{length}
 use Prim.Native.Nat.{_-_}
 use Rattle.ends.proofs.line_end.Statement.{statement}
 use Rattle.ends.proofs.line_end.Tie as tie
-use Rattle.ends.proofs.line_end.Reads as reads
-use Rattle.ends.proofs.line_end.Lts as lts
-use Rattle.ends.proofs.passed.Reads as passed-reads
 
 abbrev Inv-loop : tie.InvT-loop
 Inv-loop input from n i₀ left₀ i left = Looking input from i left

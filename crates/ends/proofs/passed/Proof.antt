@@ -4,9 +4,6 @@ use native.Mathlib.Omega.{arith}
 use Prim.Native.Nat.{_-_}
 use Rattle.ends.proofs.passed.Statement.{statement}
 use Rattle.ends.proofs.passed.Tie as tie
-use Rattle.ends.proofs.passed.Reads as reads
-use Rattle.ends.proofs.passed.Lts as lts
-use Rattle.ends.proofs.has_newline.Reads as has-newline-reads
 
 abbrev Inv-loop : tie.InvT-loop
 Inv-loop input from n i₀ k₀ i k = Passing input from i k

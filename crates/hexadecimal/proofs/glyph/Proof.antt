@@ -3,8 +3,6 @@ use Rattle.hexadecimal.proofs.Digits.{glyph-number, glyph-letter}
 use borrow.Author.Needs.{needs}
 use Rattle.hexadecimal.proofs.glyph.Statement.{statement}
 use Rattle.hexadecimal.proofs.glyph.Tie as tie
-use Rattle.hexadecimal.proofs.glyph.Reads as reads
-use Rattle.hexadecimal.proofs.glyph.Lts as lts
 
 add-result : tie.Need-add-result
 add-result c = search needs

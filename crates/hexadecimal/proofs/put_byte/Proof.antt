@@ -4,9 +4,6 @@ use Rattle.hexadecimal.proofs.Digits.{byte-put}
 use borrow.Author.Needs.{needs}
 use Rattle.hexadecimal.proofs.put_byte.Statement.{statement}
 use Rattle.hexadecimal.proofs.put_byte.Tie as tie
-use Rattle.hexadecimal.proofs.put_byte.Reads as reads
-use Rattle.hexadecimal.proofs.put_byte.Lts as lts
-use Rattle.hexadecimal.proofs.glyph.Reads as glyph-reads
 
 glyph-requires : tie.Need-glyph-requires
 glyph-requires c κs = search needs

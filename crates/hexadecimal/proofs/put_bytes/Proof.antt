@@ -5,9 +5,6 @@ use Rattle.hexadecimal.proofs.Parts.{Putting}
 use Rattle.hexadecimal.proofs.Digits.{digitsTo, digits-start, digits-next, digits-end}
 use Rattle.hexadecimal.proofs.put_bytes.Statement.{statement}
 use Rattle.hexadecimal.proofs.put_bytes.Tie as tie
-use Rattle.hexadecimal.proofs.put_bytes.Reads as reads
-use Rattle.hexadecimal.proofs.put_bytes.Lts as lts
-use Rattle.hexadecimal.proofs.put_byte.Reads as put-byte-reads
 
 abbrev Inv-loop : tie.InvT-loop
 Inv-loop body out₀ at n i₀ out i = Putting (digitsTo body) (length body) at out₀ out i

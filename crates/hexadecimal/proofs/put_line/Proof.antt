@@ -1,15 +1,10 @@
 use lib.ListN.{length}
 use Prim.Native.Nat.{_+_, _*_}
-use mathlib.Core.Path.{_∙_, refl}
+use mathlib.Core.Path.{refl}
 use Rattle.hexadecimal.proofs.Digits.{line-same, line-put}
-use native.Mathlib.Omega.{arith}
 use borrow.Author.Needs.{needs}
 use Rattle.hexadecimal.proofs.put_line.Statement.{statement}
 use Rattle.hexadecimal.proofs.put_line.Tie as tie
-use Rattle.hexadecimal.proofs.put_line.Reads as reads
-use Rattle.hexadecimal.proofs.put_line.Lts as lts
-use Rattle.hexadecimal.proofs.put_byte.Reads as put-byte-reads
-use Rattle.hexadecimal.proofs.put_bytes.Reads as put-bytes-reads
 
 put-byte-requires : tie.Need-put-byte-requires
 put-byte-requires c κs = search needs

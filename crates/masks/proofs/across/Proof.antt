@@ -6,9 +6,6 @@ use Prim.Native.Nat.{ℕ}
 use borrow.Author.Needs.{needs}
 use Rattle.masks.proofs.across.Statement.{statement}
 use Rattle.masks.proofs.across.Tie as tie
-use Rattle.masks.proofs.across.Reads as reads
-use Rattle.masks.proofs.across.Lts as lts
-use Rattle.plane.proofs.slide.Reads as slide-reads
 
 returns : tie.Need-returns
 returns c =

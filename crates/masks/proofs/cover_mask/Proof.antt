@@ -1,14 +1,10 @@
 use Rattle.masks.proofs.MaskLaws.{cover-none, cover-mask-law}
 use native.Mathlib.Omega.{arith}
-use mathlib.Core.Path.{refl, sym, ap, _∙_}
+use mathlib.Core.Path.{refl}
 use Prim.Native.Nat.{_-_}
 use borrow.Author.Needs.{needs}
 use Rattle.masks.proofs.cover_mask.Statement.{statement}
 use Rattle.masks.proofs.cover_mask.Tie as tie
-use Rattle.masks.proofs.cover_mask.Reads as reads
-use Rattle.masks.proofs.cover_mask.Lts as lts
-use Rattle.masks.proofs.across.Reads as across-reads
-use Rattle.masks.proofs.cover_word.Reads as cover-word-reads
 
 returns : tie.Need-returns
 returns c =

@@ -1,10 +1,8 @@
 use Rattle.masks.specs.Masks.{coverWord}
 use Rattle.masks.proofs.MaskLaws.{cover-rest}
-use mathlib.Core.Path.{refl, sym, ap, _∙_}
+use mathlib.Core.Path.{sym, ap}
 use Rattle.masks.proofs.cover_word.Statement.{statement}
 use Rattle.masks.proofs.cover_word.Tie as tie
-use Rattle.masks.proofs.cover_word.Reads as reads
-use Rattle.masks.proofs.cover_word.Lts as lts
 
 returns : tie.Need-returns
 returns c = ap coverWord (sym (c .match .keys1))

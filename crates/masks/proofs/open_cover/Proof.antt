@@ -2,8 +2,6 @@ use Rattle.masks.proofs.MaskLaws.{open-cover-law}
 use borrow.Author.Needs.{needs}
 use Rattle.masks.proofs.open_cover.Statement.{statement}
 use Rattle.masks.proofs.open_cover.Tie as tie
-use Rattle.masks.proofs.open_cover.Reads as reads
-use Rattle.masks.proofs.open_cover.Lts as lts
 
 shl-result : tie.Need-shl-result
 shl-result c = search needs

@@ -3,8 +3,6 @@ use borrow.Author.Tests.{not-true, not-false}
 use borrow.Author.Needs.{needs}
 use Rattle.masks.proofs.open_phantom.Statement.{statement}
 use Rattle.masks.proofs.open_phantom.Tie as tie
-use Rattle.masks.proofs.open_phantom.Reads as reads
-use Rattle.masks.proofs.open_phantom.Lts as lts
 
 returns : tie.Need-returns
 returns c = λ q t z. no-suspect q t (c .before .args .suspect) (not-true _ (c .if1 .taken))

@@ -1,15 +1,11 @@
 use borrow.Author.Tests.{not-true, not-false}
 use Rattle.masks.proofs.MaskLaws.{no-suspect, phantom-none, phantom-mask-law}
 use native.Mathlib.Omega.{arith}
-use mathlib.Core.Path.{refl, sym, ap, _∙_}
+use mathlib.Core.Path.{refl}
 use Prim.Native.Nat.{_-_}
 use borrow.Author.Needs.{needs}
 use Rattle.masks.proofs.phantom_mask.Statement.{statement}
 use Rattle.masks.proofs.phantom_mask.Tie as tie
-use Rattle.masks.proofs.phantom_mask.Reads as reads
-use Rattle.masks.proofs.phantom_mask.Lts as lts
-use Rattle.masks.proofs.across.Reads as across-reads
-use Rattle.masks.proofs.phantom_word.Reads as phantom-word-reads
 
 returns : tie.Need-returns
 returns c =

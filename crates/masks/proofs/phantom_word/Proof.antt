@@ -1,10 +1,8 @@
 use Rattle.masks.specs.Masks.{phantomWord}
 use Rattle.masks.proofs.MaskLaws.{phantom-rest}
-use mathlib.Core.Path.{refl, sym, ap, _∙_}
+use mathlib.Core.Path.{sym, ap}
 use Rattle.masks.proofs.phantom_word.Statement.{statement}
 use Rattle.masks.proofs.phantom_word.Tie as tie
-use Rattle.masks.proofs.phantom_word.Reads as reads
-use Rattle.masks.proofs.phantom_word.Lts as lts
 
 returns : tie.Need-returns
 returns c = ap phantomWord (sym (c .match .keys1))

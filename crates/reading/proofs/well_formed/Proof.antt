@@ -3,9 +3,6 @@ use native.Mathlib.Omega.{arith}
 use borrow.Author.Needs.{needs}
 use Rattle.reading.proofs.well_formed.Statement.{statement}
 use Rattle.reading.proofs.well_formed.Tie as tie
-use Rattle.reading.proofs.well_formed.Reads as reads
-use Rattle.reading.proofs.well_formed.Lts as lts
-use Rattle.characters.proofs.are_digits.Reads as are-digits-reads
 
 returns : tie.Need-returns
 returns c = well-short (c .before .before .args .line .now) (omega (arith, c .if1 .taken))

@@ -3,12 +3,6 @@ use Rattle.replies.proofs.ReplyLaws.{average-is}
 use borrow.Author.Needs.{needs}
 use Rattle.replies.proofs.average.Statement.{statement}
 use Rattle.replies.proofs.average.Tie as tie
-use Rattle.replies.proofs.average.Reads as reads
-use Rattle.replies.proofs.average.Lts as lts
-use Rattle.replies.proofs.averaged.Reads as averaged-reads
-use Rattle.replies.proofs.level_of.Reads as level-of-reads
-use Rattle.replies.proofs.plus.Reads as plus-reads
-use Rattle.replies.proofs.wide.Reads as wide-reads
 
 level-of-requires : tie.Need-level-of-requires
 level-of-requires c κs = search needs

@@ -3,10 +3,6 @@ use native.Mathlib.Omega.{arith}
 use borrow.Author.Needs.{needs}
 use Rattle.replies.proofs.choose.Statement.{statement}
 use Rattle.replies.proofs.choose.Tie as tie
-use Rattle.replies.proofs.choose.Reads as reads
-use Rattle.replies.proofs.choose.Lts as lts
-use Rattle.replies.proofs.plus.Reads as plus-reads
-use Rattle.std.proofs.num.wrapping_sub_u16.Reads as wrapping-sub-u16-reads
 
 wrapping-sub-u16-requires : tie.Need-wrapping-sub-u16-requires
 wrapping-sub-u16-requires c κs = search needs

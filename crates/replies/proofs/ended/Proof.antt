@@ -4,8 +4,6 @@ use Rattle.rules.specs.declared.Tick.{Tick}
 use Rattle.replies.proofs.ReplyLaws.{ended-is}
 use Rattle.replies.proofs.ended.Statement.{statement}
 use Rattle.replies.proofs.ended.Tie as tie
-use Rattle.replies.proofs.ended.Reads as reads
-use Rattle.replies.proofs.ended.Lts as lts
 
 cast-result : tie.Need-cast-result
 cast-result c = search needs

@@ -5,9 +5,6 @@ use Rattle.rules.specs.declared.Tick.{Tick}
 use Rattle.replies.proofs.ReplyLaws.{military-is}
 use Rattle.replies.proofs.military.Statement.{statement}
 use Rattle.replies.proofs.military.Tie as tie
-use Rattle.replies.proofs.military.Reads as reads
-use Rattle.replies.proofs.military.Lts as lts
-use Rattle.std.proofs.num.wrapping_sub_u64.Reads as wrapping-sub-u64-reads
 
 cast-wrapping-sub-u64 : tie.Need-cast-wrapping-sub-u64
 cast-wrapping-sub-u64 c = search needs

@@ -2,9 +2,6 @@
 use borrow.Author.Needs.{needs}
 use Rattle.replies.proofs.settle_bit.Statement.{statement}
 use Rattle.replies.proofs.settle_bit.Tie as tie
-use Rattle.replies.proofs.settle_bit.Reads as reads
-use Rattle.replies.proofs.settle_bit.Lts as lts
-use Rattle.replies.proofs.plus.Reads as plus-reads
 
 plus-requires : tie.Need-plus-requires
 plus-requires c κs = search needs

@@ -2,8 +2,6 @@ use Rattle.span.proofs.PartLaws.{above-law}
 use borrow.Author.Needs.{needs}
 use Rattle.span.proofs.above.Statement.{statement}
 use Rattle.span.proofs.above.Tie as tie
-use Rattle.span.proofs.above.Reads as reads
-use Rattle.span.proofs.above.Lts as lts
 
 shr-result : tie.Need-shr-result
 shr-result c = search needs

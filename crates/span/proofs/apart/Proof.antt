@@ -5,11 +5,6 @@ use native.Mathlib.Omega.{arith}
 use borrow.Author.Needs.{needs}
 use Rattle.span.proofs.apart.Statement.{statement}
 use Rattle.span.proofs.apart.Tie as tie
-use Rattle.span.proofs.apart.Reads as reads
-use Rattle.span.proofs.apart.Lts as lts
-use Rattle.span.proofs.digit.Reads as digit-reads
-use Rattle.span.proofs.later.Reads as later-reads
-use Rattle.span.proofs.sooner.Reads as sooner-reads
 
 later-requires : tie.Need-later-requires
 later-requires c κs = search needs

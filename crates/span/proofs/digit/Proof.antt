@@ -2,8 +2,6 @@ use Rattle.span.proofs.Spans.{digit-is}
 use borrow.Author.Needs.{needs}
 use Rattle.span.proofs.digit.Statement.{statement}
 use Rattle.span.proofs.digit.Tie as tie
-use Rattle.span.proofs.digit.Reads as reads
-use Rattle.span.proofs.digit.Lts as lts
 
 shr-result : tie.Need-shr-result
 shr-result c = search needs

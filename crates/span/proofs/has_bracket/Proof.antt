@@ -2,9 +2,6 @@ use Rattle.span.proofs.Spans.{bracket-is}
 use borrow.Author.Needs.{needs}
 use Rattle.span.proofs.has_bracket.Statement.{statement}
 use Rattle.span.proofs.has_bracket.Tie as tie
-use Rattle.span.proofs.has_bracket.Reads as reads
-use Rattle.span.proofs.has_bracket.Lts as lts
-use Rattle.plane.proofs.marked.Reads as marked-reads
 
 marked-requires : tie.Need-marked-requires
 marked-requires c κs = search needs

@@ -3,11 +3,6 @@ use native.Mathlib.Omega.{arith}
 use borrow.Author.Needs.{needs}
 use Rattle.span.proofs.second_main.Statement.{statement}
 use Rattle.span.proofs.second_main.Tie as tie
-use Rattle.span.proofs.second_main.Reads as reads
-use Rattle.span.proofs.second_main.Lts as lts
-use Rattle.plane.proofs.marked.Reads as marked-reads
-use Rattle.span.proofs.later.Reads as later-reads
-use Rattle.span.proofs.sooner.Reads as sooner-reads
 
 sooner-requires : tie.Need-sooner-requires
 sooner-requires c κs = search needs

@@ -3,12 +3,6 @@ use mathlib.Core.Path.{refl}
 use borrow.Author.Needs.{needs}
 use Rattle.span.proofs.span_of.Statement.{statement}
 use Rattle.span.proofs.span_of.Tie as tie
-use Rattle.span.proofs.span_of.Reads as reads
-use Rattle.span.proofs.span_of.Lts as lts
-use Rattle.brackets.proofs.at167.Reads as at167-reads
-use Rattle.brackets.proofs.at168.Reads as at168-reads
-use Rattle.brackets.proofs.due.Reads as due-reads
-use Rattle.plane.proofs.slide.Reads as slide-reads
 
 due-requires : tie.Need-due-requires
 due-requires c κs = search needs

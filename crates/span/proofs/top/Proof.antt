@@ -2,8 +2,6 @@ use Rattle.span.proofs.PartLaws.{top-law}
 use borrow.Author.Needs.{needs}
 use Rattle.span.proofs.top.Statement.{statement}
 use Rattle.span.proofs.top.Tie as tie
-use Rattle.span.proofs.top.Reads as reads
-use Rattle.span.proofs.top.Lts as lts
 
 sub-result : tie.Need-sub-result
 sub-result c = search needs

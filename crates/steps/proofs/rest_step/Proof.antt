@@ -4,9 +4,6 @@ use mathlib.Core.Path.{sym, _∙_}
 use borrow.Author.Needs.{needs}
 use Rattle.steps.proofs.rest_step.Statement.{statement}
 use Rattle.steps.proofs.rest_step.Tie as tie
-use Rattle.steps.proofs.rest_step.Reads as reads
-use Rattle.steps.proofs.rest_step.Lts as lts
-use Rattle.frames.proofs.refusal_line.Reads as refusal-line-reads
 
 has-room-requires : tie.Need-has-room-requires
 has-room-requires c κs = search needs

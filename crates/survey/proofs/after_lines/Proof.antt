@@ -6,12 +6,6 @@ use borrow.Author.Needs.{needs}
 use native.Mathlib.Omega.{arith}
 use Rattle.survey.proofs.after_lines.Statement.{statement}
 use Rattle.survey.proofs.after_lines.Tie as tie
-use Rattle.survey.proofs.after_lines.Reads as reads
-use Rattle.survey.proofs.after_lines.Lts as lts
-use Rattle.survey.proofs.ended.Reads as ended-reads
-use Rattle.survey.proofs.more.Reads as more-reads
-use Rattle.survey.proofs.pass.Reads as pass-reads
-use Rattle.survey.proofs.to_start.Reads as to-start-reads
 
 abbrev Inv-loop : tie.InvT-loop
 Inv-loop s input₀ n output₀ p₀ from₀ turns₀ input output p from turns = (length input ≡ length input₀) × (length output ≡ length output₀) × (from ≤ n)

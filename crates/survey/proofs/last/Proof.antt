@@ -6,12 +6,6 @@ use native.Mathlib.Omega.{arith}
 use borrow.Author.Needs.{needs}
 use Rattle.survey.proofs.last.Statement.{statement}
 use Rattle.survey.proofs.last.Tie as tie
-use Rattle.survey.proofs.last.Reads as reads
-use Rattle.survey.proofs.last.Lts as lts
-use Rattle.steps.proofs.rest_step.Reads as rest-step-reads
-use Rattle.survey.proofs.more.Reads as more-reads
-use Rattle.survey.proofs.print.Reads as print-reads
-use Rattle.survey.proofs.report.Reads as report-reads
 
 returns : tie.Need-returns
 returns c = search needs

@@ -1,11 +1,6 @@
 use borrow.Author.Needs.{needs}
-use native.Mathlib.Omega.{arith}
 use Rattle.survey.proofs.main.Statement.{statement}
 use Rattle.survey.proofs.main.Tie as tie
-use Rattle.survey.proofs.main.Reads as reads
-use Rattle.survey.proofs.main.Lts as lts
-use Rattle.io.proofs.large_buffer.Reads as large-buffer-reads
-use Rattle.survey.proofs.run.Reads as run-reads
 
 large-buffer-requires : tie.Need-large-buffer-requires
 large-buffer-requires c κs = search needs

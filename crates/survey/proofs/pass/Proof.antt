@@ -3,13 +3,6 @@ use native.Mathlib.Omega.{arith}
 use borrow.Author.Needs.{needs}
 use Rattle.survey.proofs.pass.Statement.{statement}
 use Rattle.survey.proofs.pass.Tie as tie
-use Rattle.survey.proofs.pass.Reads as reads
-use Rattle.survey.proofs.pass.Lts as lts
-use Rattle.lines.proofs.scan_lines.Reads as scan-lines-reads
-use Rattle.survey.proofs.came_to.Reads as came-to-reads
-use Rattle.survey.proofs.more.Reads as more-reads
-use Rattle.survey.proofs.print.Reads as print-reads
-use Rattle.survey.proofs.report.Reads as report-reads
 
 scan-lines-requires : tie.Need-scan-lines-requires
 scan-lines-requires c κs = search needs

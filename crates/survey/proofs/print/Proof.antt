@@ -4,11 +4,6 @@ use borrow.Author.Needs.{needs}
 use native.Mathlib.Omega.{arith}
 use Rattle.survey.proofs.print.Statement.{statement}
 use Rattle.survey.proofs.print.Tie as tie
-use Rattle.survey.proofs.print.Reads as reads
-use Rattle.survey.proofs.print.Lts as lts
-use Rattle.io.proofs.count.Reads as count-reads
-use Rattle.libc.proofs.write.Reads as write-reads
-use Rattle.survey.proofs.is_written.Reads as is-written-reads
 
 abbrev Inv-loop : tie.InvT-loop
 Inv-loop bytes n from₀ turns₀ from turns = from ≤ length bytes

@@ -4,10 +4,6 @@ use borrow.Author.Needs.{needs}
 use native.Mathlib.Omega.{arith}
 use Rattle.survey.proofs.run.Statement.{statement}
 use Rattle.survey.proofs.run.Tie as tie
-use Rattle.survey.proofs.run.Reads as reads
-use Rattle.survey.proofs.run.Lts as lts
-use Rattle.survey.proofs.turn.Reads as turn-reads
-use Rattle.processor.proofs.idle.Reads as idle-reads
 
 abbrev Inv-loop : tie.InvT-loop
 Inv-loop input₀ output₀ s₀ turns₀ input output s turns = (length input ≡ length input₀) × (length output ≡ length output₀)

@@ -1,12 +1,9 @@
 use mathlib.Core.Path.{_≡_, refl, _∙_}
 use lib.ListN.{length, length-set, getD}
 use Prim.Native.Nat.{_≤_, _-_}
-use borrow.Author.Needs.{needs}
 use native.Mathlib.Omega.{arith}
 use Rattle.survey.proofs.to_start.Statement.{statement}
 use Rattle.survey.proofs.to_start.Tie as tie
-use Rattle.survey.proofs.to_start.Reads as reads
-use Rattle.survey.proofs.to_start.Lts as lts
 
 abbrev Inv-loop : tie.InvT-loop
 Inv-loop input₀ from to i₀ k₀ input i k = (length input ≡ length input₀) × (i ≤ k) × (k ≤ to)

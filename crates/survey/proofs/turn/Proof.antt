@@ -3,12 +3,6 @@ use native.Mathlib.Omega.{arith}
 use borrow.Author.Needs.{needs}
 use Rattle.survey.proofs.turn.Statement.{statement}
 use Rattle.survey.proofs.turn.Tie as tie
-use Rattle.survey.proofs.turn.Reads as reads
-use Rattle.survey.proofs.turn.Lts as lts
-use Rattle.survey.proofs.after_lines.Reads as after-lines-reads
-use Rattle.survey.proofs.ended.Reads as ended-reads
-use Rattle.survey.proofs.last.Reads as last-reads
-use Rattle.survey.proofs.read_more.Reads as read-more-reads
 
 read-more-requires : tie.Need-read-more-requires
 read-more-requires c κs = search needs

@@ -4,8 +4,6 @@ use mathlib.Core.Path.{sym}
 use Rattle.frames.proofs.Printing.{fits-not, fits-rest}
 use Rattle.frames.proofs.writing.has_room.Statement.{statement}
 use Rattle.frames.proofs.writing.has_room.Tie as tie
-use Rattle.frames.proofs.writing.has_room.Reads as reads
-use Rattle.frames.proofs.writing.has_room.Lts as lts
 
 returns : tie.Need-returns
 returns c =

@@ -6,8 +6,6 @@ use Rattle.hexadecimal.proofs.Parts.{Putting}
 use Rattle.frames.proofs.Printing.{lines-start, lines-next, lines-end}
 use Rattle.frames.proofs.writing.put_records.Statement.{statement}
 use Rattle.frames.proofs.writing.put_records.Tie as tie
-use Rattle.frames.proofs.writing.put_records.Reads as reads
-use Rattle.frames.proofs.writing.put_records.Lts as lts
 
 abbrev Inv-loop : tie.InvT-loop
 Inv-loop records n out₀ at k₀ out k = Putting (λ i. recordLines i records) n at out₀ out k

@@ -3,14 +3,11 @@ use Rattle.frames.proofs.Printing.{write-none, write-all}
 use native.Mathlib.Omega.{arith}
 use Prim.Native.Nat.{_+_}
 use lib.ListN.{length}
-use mathlib.Core.Path.{refl, sym, _∙_, ap}
+use mathlib.Core.Path.{refl, sym, _∙_}
 use borrow.Author.Tests.{not-true, not-false, leb-true}
 use borrow.Author.Needs.{needs}
 use Rattle.frames.proofs.writing.refusal_line.Statement.{statement}
 use Rattle.frames.proofs.writing.refusal_line.Tie as tie
-use Rattle.frames.proofs.writing.refusal_line.Reads as reads
-use Rattle.frames.proofs.writing.refusal_line.Lts as lts
-use Rattle.frames.proofs.writing.has_room.Reads as has-room-reads
 
 has-room-requires : tie.Need-has-room-requires
 has-room-requires c κs = search needs

@@ -2,8 +2,6 @@ use Rattle.frames.proofs.Printing.{totals-are}
 use borrow.Author.Needs.{needs}
 use Rattle.frames.proofs.writing.totals_bytes.Statement.{statement}
 use Rattle.frames.proofs.writing.totals_bytes.Tie as tie
-use Rattle.frames.proofs.writing.totals_bytes.Reads as reads
-use Rattle.frames.proofs.writing.totals_bytes.Lts as lts
 
 cast-t4 : tie.Need-cast-t4
 cast-t4 c = search needs

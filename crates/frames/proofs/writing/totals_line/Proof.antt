@@ -6,15 +6,11 @@ use Rattle.hexadecimal.specs.Digits.{written}
 use Rattle.frames.proofs.Printing.{write-none, write-all, totals-length}
 use native.Mathlib.Omega.{arith}
 use lib.ListN.{length}
-use mathlib.Core.Path.{refl, sym, _∙_, ap}
+use mathlib.Core.Path.{sym, _∙_, ap}
 use borrow.Author.Tests.{not-true, not-false, leb-true}
 use borrow.Author.Needs.{needs}
 use Rattle.frames.proofs.writing.totals_line.Statement.{statement}
 use Rattle.frames.proofs.writing.totals_line.Tie as tie
-use Rattle.frames.proofs.writing.totals_line.Reads as reads
-use Rattle.frames.proofs.writing.totals_line.Lts as lts
-use Rattle.frames.proofs.writing.has_room.Reads as has-room-reads
-use Rattle.frames.proofs.writing.totals_bytes.Reads as totals-bytes-reads
 
 has-room-requires : tie.Need-has-room-requires
 has-room-requires c κs = search needs

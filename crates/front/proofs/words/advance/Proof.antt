@@ -3,10 +3,6 @@ use native.Mathlib.Omega.{arith}
 use borrow.Author.Needs.{needs}
 use Rattle.front.proofs.words.advance.Statement.{statement}
 use Rattle.front.proofs.words.advance.Tie as tie
-use Rattle.front.proofs.words.advance.Reads as reads
-use Rattle.front.proofs.words.advance.Lts as lts
-use Rattle.edges.proofs.detect_or_skip.Reads as detect-or-skip-reads
-use Rattle.plane.proofs.slide.Reads as slide-reads
 
 slide-requires : tie.Need-slide-requires
 slide-requires c κs = search needs

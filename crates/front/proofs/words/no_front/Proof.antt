@@ -1,8 +1,6 @@
 use Rattle.front.proofs.Opening.{no-front}
 use Rattle.front.proofs.words.no_front.Statement.{statement}
 use Rattle.front.proofs.words.no_front.Tie as tie
-use Rattle.front.proofs.words.no_front.Reads as reads
-use Rattle.front.proofs.words.no_front.Lts as lts
 
 returns : tie.Need-returns
 returns c = no-front

@@ -5,11 +5,6 @@ use mathlib.Core.Path.{refl}
 use borrow.Author.Needs.{needs}
 use Rattle.lines.proofs.batch.add_samples.Statement.{statement}
 use Rattle.lines.proofs.batch.add_samples.Tie as tie
-use Rattle.lines.proofs.batch.add_samples.Reads as reads
-use Rattle.lines.proofs.batch.add_samples.Lts as lts
-use Rattle.reading.proofs.read.Reads as read-reads
-use Rattle.lines.proofs.batch.append.Reads as append-reads
-use Rattle.lines.proofs.batch.count_in.Reads as count-in-reads
 
 read-requires : tie.Need-read-requires
 read-requires c κs = search needs

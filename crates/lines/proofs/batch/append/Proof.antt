@@ -4,8 +4,6 @@ use native.Mathlib.Omega.{arith}
 use Prim.Native.Nat.{_-_}
 use Rattle.lines.proofs.batch.append.Statement.{statement}
 use Rattle.lines.proofs.batch.append.Tie as tie
-use Rattle.lines.proofs.batch.append.Reads as reads
-use Rattle.lines.proofs.batch.append.Lts as lts
 
 abbrev Inv-loop : tie.InvT-loop
 Inv-loop bytes all₀ n i₀ all i = Putting (firstOnes bytes) 64 n all₀ all i

@@ -8,11 +8,6 @@ use lib.ListN.{length}
 use Prim.Native.Nat.{_+_}
 use Rattle.lines.proofs.batch.batch.Statement.{statement}
 use Rattle.lines.proofs.batch.batch.Tie as tie
-use Rattle.lines.proofs.batch.batch.Reads as reads
-use Rattle.lines.proofs.batch.batch.Lts as lts
-use Rattle.lines.proofs.batch.gather.Reads as gather-reads
-use Rattle.lines.proofs.batch.may_say_samples.Reads as may-say-samples-reads
-use Rattle.lines.proofs.batch.take_all.Reads as take-all-reads
 
 has-room-requires : tie.Need-has-room-requires
 has-room-requires c κs = search needs

@@ -6,10 +6,6 @@ use mathlib.Core.Path.{refl}
 use Prim.Native.Nat.{_-_}
 use Rattle.lines.proofs.batch.gather.Statement.{statement}
 use Rattle.lines.proofs.batch.gather.Tie as tie
-use Rattle.lines.proofs.batch.gather.Reads as reads
-use Rattle.lines.proofs.batch.gather.Lts as lts
-use Rattle.lines.proofs.batch.add_samples.Reads as add-samples-reads
-use Rattle.ends.proofs.line_end.Reads as line-end-reads
 
 abbrev Inv-loop : tie.InvT-loop
 Inv-loop input from flags₀ values₀ i₀ n₀ flags values i n = SoFar input from flags₀ values₀ flags values i n

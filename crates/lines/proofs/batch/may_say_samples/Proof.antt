@@ -3,8 +3,6 @@ use native.Mathlib.Omega.{arith}
 use borrow.Author.Needs.{needs}
 use Rattle.lines.proofs.batch.may_say_samples.Statement.{statement}
 use Rattle.lines.proofs.batch.may_say_samples.Tie as tie
-use Rattle.lines.proofs.batch.may_say_samples.Reads as reads
-use Rattle.lines.proofs.batch.may_say_samples.Lts as lts
 
 returns : tie.Need-returns
 returns c =

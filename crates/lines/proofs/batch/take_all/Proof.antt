@@ -1,16 +1,9 @@
 use Rattle.steps.specs.Post.{pieceOf}
-use native.Mathlib.Omega.{arith}
-use mathlib.Core.Path.{refl, ap}
-use Prim.Native.Nat.{ℕ, _*_}
+use mathlib.Core.Path.{refl}
 use Rattle.lines.proofs.Batching.{all-refused, all-accepted}
-use Rattle.steps.proofs.Answering.{part-length}
 use borrow.Author.Needs.{needs}
 use Rattle.lines.proofs.batch.take_all.Statement.{statement}
 use Rattle.lines.proofs.batch.take_all.Tie as tie
-use Rattle.lines.proofs.batch.take_all.Reads as reads
-use Rattle.lines.proofs.batch.take_all.Lts as lts
-use Rattle.frames.proofs.reply_lines.Reads as reply-lines-reads
-use Rattle.sweep.proofs.take.Reads as take-reads
 
 slice-aggregate-take : tie.Need-slice-aggregate-take
 slice-aggregate-take c = search needs

@@ -6,11 +6,6 @@ use native.Mathlib.Omega.{arith}
 use borrow.Author.Needs.{needs}
 use Rattle.lines.proofs.scan.scan_lines.Statement.{statement}
 use Rattle.lines.proofs.scan.scan_lines.Tie as tie
-use Rattle.lines.proofs.scan.scan_lines.Reads as reads
-use Rattle.lines.proofs.scan.scan_lines.Lts as lts
-use Rattle.lines.proofs.batch.batch.Reads as batch-reads
-use Rattle.answers.proofs.line_step.Reads as line-step-reads
-use Rattle.ends.proofs.line_end.Reads as line-end-reads
 
 abbrev Inv-loop : tie.InvT-loop
 Inv-loop input from out₀ at q₀ i₀ place₀ out q i place = Scanning q₀ input from at out₀ q i place out

@@ -4,10 +4,6 @@ use native.Mathlib.Omega.{arith}
 use Prim.Native.Nat.{_-_}
 use Rattle.reading.proofs.samples.fill.Statement.{statement}
 use Rattle.reading.proofs.samples.fill.Tie as tie
-use Rattle.reading.proofs.samples.fill.Reads as reads
-use Rattle.reading.proofs.samples.fill.Lts as lts
-use Rattle.reading.proofs.samples.put_values.Reads as put-values-reads
-use Rattle.reading.proofs.samples.two_bytes.Reads as two-bytes-reads
 
 abbrev Inv-loop : tie.InvT-loop
 Inv-loop line n flags₀ values₀ digits j₀ flags values j = Filling line n flags₀ values₀ flags values j

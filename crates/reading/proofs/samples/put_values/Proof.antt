@@ -3,9 +3,6 @@ use native.Mathlib.Omega.{arith}
 use Prim.Native.Nat.{_-_}
 use Rattle.reading.proofs.samples.put_values.Statement.{statement}
 use Rattle.reading.proofs.samples.put_values.Tie as tie
-use Rattle.reading.proofs.samples.put_values.Reads as reads
-use Rattle.reading.proofs.samples.put_values.Lts as lts
-use Rattle.characters.proofs.value.Reads as value-reads
 
 abbrev Inv-loop : tie.InvT-loop
 Inv-loop line n digits₀ i₀ digits i = Valued line n digits₀ digits i

@@ -2,9 +2,6 @@ use Rattle.reading.proofs.Filling.{two-in-word}
 use borrow.Author.Needs.{needs}
 use Rattle.reading.proofs.samples.two_bytes.Statement.{statement}
 use Rattle.reading.proofs.samples.two_bytes.Tie as tie
-use Rattle.reading.proofs.samples.two_bytes.Reads as reads
-use Rattle.reading.proofs.samples.two_bytes.Lts as lts
-use Rattle.reading.proofs.samples.wide.Reads as wide-reads
 
 shared-slice-read-wide : tie.Need-shared-slice-read-wide
 shared-slice-read-wide c = search needs

@@ -5,10 +5,6 @@ use native.Mathlib.Omega.{arith}
 use borrow.Author.Needs.{needs}
 use Rattle.refusals.proofs.whole.whole_refusal.Statement.{statement}
 use Rattle.refusals.proofs.whole.whole_refusal.Tie as tie
-use Rattle.refusals.proofs.whole.whole_refusal.Reads as reads
-use Rattle.refusals.proofs.whole.whole_refusal.Lts as lts
-use Rattle.flags.proofs.has_bad.Reads as has-bad-reads
-use Rattle.refusals.proofs.whole.whole_room.Reads as whole-room-reads
 
 returns : tie.Need-returns
 returns c =

@@ -1,10 +1,7 @@
 use Rattle.steps.proofs.Answering.{stop-post}
 use borrow.Author.Needs.{needs}
-use Rattle.steps.proofs.stop.Statement.{statement}
-use Rattle.steps.proofs.stop.Tie as tie
-use Rattle.steps.proofs.stop.Reads as reads
-use Rattle.steps.proofs.stop.Lts as lts
-use Rattle.frames.proofs.refusal_line.Reads as refusal-line-reads
+use Rattle.answers.proofs.stop.Statement.{statement}
+use Rattle.answers.proofs.stop.Tie as tie
 
 refusal-line-requires : tie.Need-refusal-line-requires
 refusal-line-requires c κs = search needs
