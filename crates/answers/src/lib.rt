@@ -3,7 +3,7 @@ ghost use Prim.Native.Nat.{_+_, _≤_};
 ghost use mathlib.Core.Path.{_≡_};
 ghost use lib.ListN.{length};
 ghost use Rattle.steps.specs.Outcomes.{stops, openedAt, takenAt, closedAt};
-ghost use Rattle.steps.specs.Post.{AnswerPost, StepPost, pieceOf, saidAt, numberOf, countIn};
+ghost use Rattle.steps.specs.Post.{AnswerPost, StepPost, pieceOf, saidAt, numberOf, countIn, lineMost};
 use calls::Answer;
 use frames::has_room;
 use frames::refusal_line;
@@ -11,6 +11,9 @@ use processor::Processor;
 use reading::Frame;
 use reading::Line;
 use reading::read;
+use rules::CLOSE_ROOM;
+use rules::Opening;
+use steps::LINE_ROOM;
 use steps::MOST;
 use steps::Step;
 use steps::Stepped;
@@ -28,7 +31,7 @@ fn with_processor(step: Step, processor: Processor) -> Stepped
 
 // A refusal stops the survey.
 fn stop(p: Processor, number: u8, out: &mut [u8], at: usize) -> Stepped
-    requires { ⌜ at + 339 ≤ length (now out) ⌝ }
+    requires { ⌜ at + lineMost ≤ length (now out) ⌝ }
     ensures { λ r. ⌜ AnswerPost (λ σ. stops number) p at (now (out .entry)) r (now (out .exit)) ⌝ }
 {
     let end = refusal_line(number, out, at);
@@ -39,11 +42,11 @@ fn stop(p: Processor, number: u8, out: &mut [u8], at: usize) -> Stepped
 }
 
 // `01` during a sweep starts afresh.
-fn opened(p: Processor, mode: u8, azimuth: u16, out: &mut [u8], at: usize) -> Stepped
-    requires { ⌜ at + 339 ≤ length (now out) ⌝ }
-    ensures { λ r. ⌜ AnswerPost (openedAt mode azimuth) p at (now (out .entry)) r (now (out .exit)) ⌝ }
+fn opened(p: Processor, opening: Opening, out: &mut [u8], at: usize) -> Stepped
+    requires { ⌜ at + lineMost ≤ length (now out) ⌝ }
+    ensures { λ r. ⌜ AnswerPost (openedAt opening) p at (now (out .entry)) r (now (out .exit)) ⌝ }
 {
-    let o = open(mode, azimuth);
+    let o = open(opening);
     let answer = o.answer;
     match answer {
         Answer::Refused(number) => stop(p, number, out, at),
@@ -51,12 +54,12 @@ fn opened(p: Processor, mode: u8, azimuth: u16, out: &mut [u8], at: usize) -> St
     }
 }
 
-// A piece of at most 64 ticks, for which 72 bytes suffice.
+// A piece of at most 64 ticks.
 fn taken(p: Processor, flags: &[u8], values: &[u8], out: &mut [u8], at: usize) -> Stepped
-    requires { ⌜ (length (now flags) ≤ 64) × (at + 339 ≤ length (now out)) ⌝ }
+    requires { ⌜ (length (now flags) ≤ 64) × (at + lineMost ≤ length (now out)) ⌝ }
     ensures { λ r. ⌜ AnswerPost (takenAt (pieceOf (now (flags .entry)) (now (values .entry)))) p at (now (out .entry)) r (now (out .exit)) ⌝ }
 {
-    let mut handed = [0u8; 72];
+    let mut handed = [0u8; LINE_ROOM];
     let t = take(p, flags, values, &mut handed);
     let answer = t.answer;
     let step = show_take(answer, &handed, out, at);
@@ -64,10 +67,10 @@ fn taken(p: Processor, flags: &[u8], values: &[u8], out: &mut [u8], at: usize) -
 }
 
 fn closed(p: Processor, out: &mut [u8], at: usize) -> Stepped
-    requires { ⌜ at + 339 ≤ length (now out) ⌝ }
+    requires { ⌜ at + lineMost ≤ length (now out) ⌝ }
     ensures { λ r. ⌜ AnswerPost closedAt p at (now (out .entry)) r (now (out .exit)) ⌝ }
 {
-    let mut handed = [0u8; 144];
+    let mut handed = [0u8; CLOSE_ROOM];
     let c = close(p, &mut handed);
     let answer = c.answer;
     let step = show_close(answer, c.totals, &handed, out, at);
@@ -92,14 +95,14 @@ fn answer_line(
     out: &mut [u8],
     at: usize,
 ) -> Stepped
-    requires { ⌜ (countIn line ≤ 64) × (countIn line ≤ length (now flags)) × (countIn line ≤ length (now values)) × (at + 339 ≤ length (now out)) ⌝ }
+    requires { ⌜ (countIn line ≤ 64) × (countIn line ≤ length (now flags)) × (countIn line ≤ length (now values)) × (at + lineMost ≤ length (now out)) ⌝ }
     ensures { λ r. ⌜ AnswerPost (saidAt line (now (flags .entry)) (now (values .entry))) p at (now (out .entry)) r (now (out .exit)) ⌝ }
 {
     let Line::Frame(frame) = line else {
         return stop(p, number_of(line), out, at);
     };
     match frame {
-        Frame::Open(mode, azimuth) => opened(p, mode, azimuth, out, at),
+        Frame::Open(opening) => opened(p, opening, out, at),
         Frame::Samples(n) => taken(p, &flags[..n], &values[..n], out, at),
         Frame::Close => closed(p, out, at),
     }

@@ -10,7 +10,7 @@ use Rattle.rules.specs.declared.Reply.{Reply}
 use Rattle.rules.specs.Settings.{standard}
 use Rattle.rules.specs.Samples.{Trace, _⧺_, A, P, N, M, odd}
 use Rattle.rules.specs.Buffers.{over-at}
-use Rattle.rules.specs.Records.{records}
+use Rattle.rules.specs.Records.{records, recordSize}
 use Rattle.rules.specs.Calls.{fresh, handed}
 use Rattle.rules.proofs.Joining.{append-same, handed-fresh}
 use Rattle.rules.proofs.Answers.{standard-allowed, join-nothing}
@@ -48,7 +48,7 @@ fed-nothing T o b a f m p =
           m
           ∙ ap (λ (n : ℕ). machineOf (stateAt T (n - 178))) (ap length (sym (append-nil (T .flags))))
           ∙ ap (λ (R : Trace). machineOf (stateAt R (length (T .flags ++ []) - 178))) (sym (join-nothing T));
-      place = p ∙ ap (λ (l : List Reply). 18 * length l) (sym e);
+      place = p ∙ ap (λ (l : List Reply). recordSize * length l) (sym e);
       buffer = sym (ap (λ (l : List Reply). over-at (records l) 0 b) e ∙ over-nil 0 b);
     }
 
@@ -152,7 +152,7 @@ next-block T o recent base flags values b₀ b i r t g same h e =
       reads =
           subst (λ (R : Trace). Reads (T ⧺ R) t recent base values) (sym m)
           (subst (λ (c : ℕ). Reads (T ⧺ upTo flags values n) c recent base values) (sym e) (g .reads n h));
-      room = subst (λ (R : Trace). 18 * length (fresh standard T R) ≤ length b₀) (sym m) (g .room n h);
+      room = subst (λ (R : Trace). recordSize * length (fresh standard T R) ≤ length b₀) (sym m) (g .room n h);
       same = same;
     }
 

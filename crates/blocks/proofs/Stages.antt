@@ -17,7 +17,7 @@ use Rattle.rules.specs.Ranges.{Ranged}
 use Rattle.rules.specs.Samples.{Trace}
 use Rattle.rules.specs.Edges.{stands, edgeAt}
 use Rattle.rules.specs.Replies.{f1, ended, covers, isPhantom}
-use Rattle.rules.specs.Machine.{State, retired, bracketAt, bracket, deal, edgeStep}
+use Rattle.rules.specs.Machine.{given, State, retired, bracketAt, bracket, deal, edgeStep}
 use Rattle.rules.specs.Records.{replies}
 use Rattle.rules.proofs.Truth.{impossible}
 use Rattle.rules.proofs.ListLaws.{all-map, filter-none, reject-none}
@@ -57,13 +57,13 @@ all-behind P (x ∷ d) l h = all-behind P d l (h .1)
 
 pub sound-at : (T : Trace) → All (λ v. v ≤ 255) (T .values) → (c : ℕ) → Sound c (stateAt T c)
 sound-at T bytes c =
-    let E = edgeAt standard T in
-    let o = ordered standard E (edge-timed standard T) c in
+    let G = given standard T in
+    let o = ordered G (edge-timed standard T) c in
     record {
       queue = ordered-queue c (stateAt T c) o;
       ranged = ranged-each standard standard-allowed T bytes c .live;
-      balanced = after-balanced standard E c;
-      found = omega (arith, after-found standard E c, brackets-most standard E c);
+      balanced = after-balanced G c;
+      found = omega (arith, after-found G c, brackets-most G c);
       low =
           all-map (λ r. (0 ≤ f1 r) × (f1 r < c)) (λ r. f1 r < c) (λ r h. h .1) (stateAt T c .live)
           (all-behind (λ r. (0 ≤ f1 r) × (f1 r < c)) (stateAt T c .done) (stateAt T c .live) (rising-all 0 c (replies (stateAt T c)) (o .rising)));
@@ -99,14 +99,14 @@ sound-less c k s p there h =
 -- ---- sums of 16 bits are those of the rules
 
 module _ (T : Trace) (bd : Bounded T) (u : ℕ) (st : stands (edgeAt standard T u) ≡ true) where
-  second-byte : f2Value (bracketAt standard (edgeAt standard T) u) ≤ 255
-  second-byte = go (bracketAt standard (edgeAt standard T) u) refl
+  second-byte : f2Value (bracketAt (given standard T) u) ≤ 255
+  second-byte = go (bracketAt (given standard T) u) refl
     where
-      go : (b : Bracket) → bracketAt standard (edgeAt standard T) u ≡ b → f2Value b ≤ 255
+      go : (b : Bracket) → bracketAt (given standard T) u ≡ b → f2Value b ≤ 255
       go Without e = omega arith
-      go (With f) e = framed-byte standard standard-allowed T (bd .bytes) u f (framing standard (edgeAt standard T) u f e)
+      go (With f) e = framed-byte standard standard-allowed T (bd .bytes) u f (framing (given standard T) u f e)
 
-  pub fits : (c : ℕ) (s : State) → c ≤ u → Sound c s → Fits (edgeAt standard T u .pulse) (bracketAt standard (edgeAt standard T) u) s
+  pub fits : (c : ℕ) (s : State) → c ≤ u → Sound c s → Fits (edgeAt standard T u .pulse) (bracketAt (given standard T) u) s
   fits c s le h =
       record {
         four = h .queue .four;
@@ -124,7 +124,7 @@ pub record Held (T : Trace) (t todo : ℕ) (s : State) : Type 0 where
   pub sound : Sound from s
   -- the step at the next tick to visit leads to the state of the rules
   pub next : (i u : ℕ) → Lowest todo i → t + i ≡ u + 242
-      → (from ≤ u) × (edgeStep _+_ standard (edgeAt standard T u .pulse) (bracketAt standard (edgeAt standard T) u) (retired u s) ≡ stateAt T (suc u))
+      → (from ≤ u) × (edgeStep _+_ standard (edgeAt standard T u .pulse) (bracketAt (given standard T) u) (retired u s) ≡ stateAt T (suc u))
   -- with none to visit only retiring is left
   pub last : todo ≡ 0 → 179 ≤ t → retired (t - 179) s ≡ stateAt T (t - 178)
   pub soon : todo ≡ 0 → t < 179 → s ≡ stateAt T (t - 178)
@@ -144,7 +144,7 @@ module _ (T : Trace) (t : ℕ) (s : Span) (recent : List ℕ) (base : ℕ) (valu
 
   module _ (k c todo : ℕ) (ec : c ≡ t + k - 242) (lk : k ≤ 64) (clear : (j : ℕ) → j < k → bit todo j ≡ false) (sub : (j : ℕ) → j < 64 → bit todo j ≡ true → bit (s .due) j ≡ true)
       (idle : (j v : ℕ) → k ≤ j → j < 64 → bit (s .due) j ≡ true → bit todo j ≡ false → t + j ≡ v + 242
-      → (bracketAt standard (edgeAt standard T) v ≡ Without) × All (λ r. covers v r ≡ false) (stateAt T c .live)) where
+      → (bracketAt (given standard T) v ≡ Without) × All (λ r. covers v r ≡ false) (stateAt T c .live)) where
     first-from : (i : ℕ) → Lowest todo i → k ≤ i
     first-from i h = go (leb k i) refl
       where
@@ -155,7 +155,7 @@ module _ (T : Trace) (t : ℕ) (s : Span) (recent : List ℕ) (base : ℕ) (valu
     -- the state after the ticks below c, where all edges before bit k are taken
     pub onward : Held T t todo (stateAt T c)
     onward =
-        let E = edgeAt standard T in
+        let G = given standard T in
         let ed = edge-timed standard T in
         record {
           from = c;
@@ -165,7 +165,7 @@ module _ (T : Trace) (t : ℕ) (s : Span) (recent : List ℕ) (base : ℕ) (valu
               let le : c ≤ u = omega arith in
               let st : stands (edgeAt standard T u) ≡ true = sym (due-at u i (h .below) z) ∙ sub i (h .below) (h .set) in (
                 le,
-                visit standard E ed c u le
+                visit G ed c u le
                     (λ j a n q.
                     let e = j + 242 - t in
                     let y : t + e ≡ j + 242 = omega arith in
@@ -176,7 +176,7 @@ module _ (T : Trace) (t : ℕ) (s : Span) (recent : List ℕ) (base : ℕ) (valu
           last = λ z l.
               let w : suc (t - 179) ≡ t - 178 = omega arith in
               subst (λ (n : ℕ). retired (t - 179) (stateAt T c) ≡ stateAt T n) w
-              (skip-to standard E ed c (t - 179) (omega arith)
+              (skip-to G ed c (t - 179) (omega arith)
               (λ j a n q.
               let e = j + 242 - t in
               let y : t + e ≡ j + 242 = omega arith in
@@ -211,8 +211,8 @@ module _ (T : Trace) (t todo i u : ℕ) (s : State) (h : Held T t todo s) (low :
 
   -- another state with which the step at u leads on
   pub held-same : (s′ : State) → Sound (h .from) s′
-      → edgeStep _+_ standard (edgeAt standard T u .pulse) (bracketAt standard (edgeAt standard T) u) (retired u s′)
-      ≡ edgeStep _+_ standard (edgeAt standard T u .pulse) (bracketAt standard (edgeAt standard T) u) (retired u s) → Held T t todo s′
+      → edgeStep _+_ standard (edgeAt standard T u .pulse) (bracketAt (given standard T) u) (retired u s′)
+      ≡ edgeStep _+_ standard (edgeAt standard T u .pulse) (bracketAt (given standard T) u) (retired u s) → Held T t todo s′
   held-same s′ sound e =
       record {
         from = h .from;
@@ -220,7 +220,7 @@ module _ (T : Trace) (t todo i u : ℕ) (s : State) (h : Held T t todo s) (low :
         next = λ j v k y.
             let m : j ≡ i = lowest-same todo j i k low in
             let w : u ≡ v = omega (arith, m) in
-            subst (λ (n : ℕ). (h .from ≤ n) × (edgeStep _+_ standard (edgeAt standard T n .pulse) (bracketAt standard (edgeAt standard T) n) (retired n s′) ≡ stateAt T (suc n))) w
+            subst (λ (n : ℕ). (h .from ≤ n) × (edgeStep _+_ standard (edgeAt standard T n .pulse) (bracketAt (given standard T) n) (retired n s′) ≡ stateAt T (suc n))) w
             (h .next i u low z .0, e ∙ h .next i u low z .1);
         last = λ k. absurd (visits k);
         soon = λ k. absurd (visits k);
@@ -230,11 +230,11 @@ module _ (T : Trace) (t todo i u : ℕ) (s : State) (h : Held T t todo s) (low :
   pub held-over : (r : Reply) (l : List Reply) → s .live ≡ r ∷ l → ended u r ≡ true → Held T t todo (record { done = s .done ++ (r ∷ []); live = l; counts = s .counts })
   held-over r l e o =
       held-same (record { done = s .done ++ (r ∷ []); live = l; counts = s .counts }) (sound-over (h .from) s r l e (h .sound))
-      (ap (edgeStep _+_ standard (edgeAt standard T u .pulse) (bracketAt standard (edgeAt standard T) u))
+      (ap (edgeStep _+_ standard (edgeAt standard T u .pulse) (bracketAt (given standard T) u))
       (over-first u (s .done) l r (s .counts) o ∙ ap (λ (m : List Reply). retired u (record { done = s .done; live = m; counts = s .counts })) (sym e)))
 
   -- a phantom is removed
-  pub held-less : (f : Pulse) (k : ℕ) → bracketAt standard (edgeAt standard T) u ≡ With f → (edgeAt standard T u .pulse .main || f .main) ≡ true
+  pub held-less : (f : Pulse) (k : ℕ) → bracketAt (given standard T) u ≡ With f → (edgeAt standard T u .pulse .main || f .main) ≡ true
       → test (isPhantom (edgeAt standard T u .pulse .tick .0)) (placeAt k (s .live)) ≡ true → All (λ r. ended u r ≡ false) (s .live) → Held T t todo (lessPhantom k s)
   unfolding edgeStep
   held-less f k b main there none =
@@ -245,6 +245,6 @@ module _ (T : Trace) (t todo i u : ℕ) (s : State) (h : Held T t todo s) (low :
       ∙ (λ j. deal _+_ standard e (bracket _+_ e (sym b j) (sym (retired-open u s none) j))))
 
   -- with none over, the step at u is made of the state as it is
-  pub held-step : All (λ r. ended u r ≡ false) (s .live) → edgeStep _+_ standard (edgeAt standard T u .pulse) (bracketAt standard (edgeAt standard T) u) s ≡ stateAt T (suc u)
+  pub held-step : All (λ r. ended u r ≡ false) (s .live) → edgeStep _+_ standard (edgeAt standard T u .pulse) (bracketAt (given standard T) u) s ≡ stateAt T (suc u)
   held-step none =
-      ap (edgeStep _+_ standard (edgeAt standard T u .pulse) (bracketAt standard (edgeAt standard T) u)) (sym (retired-open u s none)) ∙ h .next i u low z .1
+      ap (edgeStep _+_ standard (edgeAt standard T u .pulse) (bracketAt (given standard T) u)) (sym (retired-open u s none)) ∙ h .next i u low z .1

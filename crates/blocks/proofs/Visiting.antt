@@ -15,9 +15,8 @@ use Rattle.rules.specs.declared.Bracket.the-variants.{Without}
 use Rattle.rules.specs.Settings.{standard}
 use Rattle.rules.specs.Lists.{any, All}
 use Rattle.rules.specs.Samples.{Trace}
-use Rattle.rules.specs.Edges.{edgeAt}
 use Rattle.rules.specs.Replies.{covers}
-use Rattle.rules.specs.Machine.{bracketAt}
+use Rattle.rules.specs.Machine.{given, bracketAt}
 use Rattle.rules.proofs.Truth.{impossible, same-or, and-left, or-left, or-right}
 use Rattle.places.specs.Places.{any3, anyIn, placed}
 use Rattle.places.proofs.Placed.{any-placed}
@@ -173,12 +172,12 @@ none-of p [] h = tt
 none-of p (r ∷ l) h = (or-left (p r) (any p l) h, none-of p l (or-right (p r) (any p l) h))
 
 module _ (T : Trace) (s : Span) (t : ℕ) (recent : List ℕ) (base : ℕ) (values : List ℕ) (sh : Shows T t s recent base values) (i u : ℕ) (li : i < 64) (z : t + i ≡ u + 242) where
-  pub bracketless : hasBracket s i ≡ false → bracketAt standard (edgeAt standard T) u ≡ Without
+  pub bracketless : hasBracket s i ≡ false → bracketAt (given standard T) u ≡ Without
   bracketless h =
       sym (bracket-none s i u recent base values (hasBracket s i) refl h ∙ span-bracket T s t (sh .spanned) recent base values (sh .reads) i u li z)
 
   pub unwanted : (on : Words) (l : List Place) (m : List Reply) → Marked on i (covers u) l → four l ≡ placed m → length m ≤ 4 → wantedIn s on i ≡ false
-      → (bracketAt standard (edgeAt standard T) u ≡ Without) × All (λ r. covers u r ≡ false) m
+      → (bracketAt (given standard T) u ≡ Without) × All (λ r. covers u r ≡ false) m
   unwanted on l m k e f h = (
     bracketless (or-left (hasBracket s i) (anyAt on i) h),
     none-of (covers u) m (sym (any-placed (covers u) m f) ∙ ap (anyIn (covers u)) (sym e) ∙ sym (any-marked on i (covers u) l k) ∙ or-right (hasBracket s i) (anyAt on i) h),

@@ -20,8 +20,8 @@ use Rattle.rules.specs.Lists.{All, filter}
 use Rattle.rules.specs.Samples.{Trace}
 use Rattle.rules.specs.Edges.{stands, edgeAt}
 use Rattle.rules.specs.Replies.{f1, ended, isPhantom}
-use Rattle.rules.specs.Machine.{State, retired, bracketAt}
-use Rattle.rules.specs.Records.{records}
+use Rattle.rules.specs.Machine.{given, State, retired, bracketAt}
+use Rattle.rules.specs.Records.{records, recordSize}
 use Rattle.rules.specs.Buffers.{over-at}
 use Rattle.rules.proofs.Truth.{impossible}
 use Rattle.rules.proofs.ListLaws.{all-map}
@@ -62,29 +62,29 @@ pub over-nil : (at : ℕ) (b : List ℕ) → over-at (records []) at b ≡ b
 unfolding records
 over-nil at b = over-at-nil at b
 
--- the records of `given` stand in the buffer b, which was b₀, from place at₀ on; `done` are all replies that are done, and `before` those before
-pub record Given (before done : List Reply) (at₀ : ℕ) (b₀ : List ℕ) (at : ℕ) (b : List ℕ) : Type 0 where
-  pub given : List Reply
-  pub grown : done ≡ before ++ given
-  pub place : at ≡ at₀ + 18 * length given
-  pub buffer : b ≡ over-at (records given) at₀ b₀
+-- the records of `written` stand in the buffer b, which was b₀, from place at₀ on; `done` are all replies that are done, and `before` those before
+pub record Written (before done : List Reply) (at₀ : ℕ) (b₀ : List ℕ) (at : ℕ) (b : List ℕ) : Type 0 where
+  pub written : List Reply
+  pub grown : done ≡ before ++ written
+  pub place : at ≡ at₀ + recordSize * length written
+  pub buffer : b ≡ over-at (records written) at₀ b₀
 
-pub given-none : (before : List Reply) (at₀ : ℕ) (b₀ : List ℕ) → Given before before at₀ b₀ at₀ b₀
-given-none before at₀ b₀ = record { given = []; grown = sym (append-nil before); place = omega arith; buffer = sym (over-nil at₀ b₀) }
+pub written-none : (before : List Reply) (at₀ : ℕ) (b₀ : List ℕ) → Written before before at₀ b₀ at₀ b₀
+written-none before at₀ b₀ = record { written = []; grown = sym (append-nil before); place = omega arith; buffer = sym (over-nil at₀ b₀) }
 
 -- one reply more
-pub given-more : (before done : List Reply) (at₀ : ℕ) (b₀ : List ℕ) (at : ℕ) (b : List ℕ) (r : Reply) (at′ : ℕ) (b′ : List ℕ) → Given before done at₀ b₀ at b → at + 18 ≤ length b₀
-    → at′ ≡ at + 18 * length (r ∷ []) → b′ ≡ over-at (records (r ∷ [])) at b → Given before (done ++ (r ∷ [])) at₀ b₀ at′ b′
-given-more before done at₀ b₀ at b r at′ b′ h room ea eb =
+pub written-more : (before done : List Reply) (at₀ : ℕ) (b₀ : List ℕ) (at : ℕ) (b : List ℕ) (r : Reply) (at′ : ℕ) (b′ : List ℕ) → Written before done at₀ b₀ at b → at + recordSize ≤ length b₀
+    → at′ ≡ at + recordSize * length (r ∷ []) → b′ ≡ over-at (records (r ∷ [])) at b → Written before (done ++ (r ∷ [])) at₀ b₀ at′ b′
+written-more before done at₀ b₀ at b r at′ b′ h room ea eb =
     record {
-      given = h .given ++ (r ∷ []);
-      grown = ap {B = List Reply} (λ z. z ++ (r ∷ [])) (h .grown) ∙ append-assoc before (h .given) (r ∷ []);
-      place = omega (arith, ea, h .place, length-append (h .given) (r ∷ []));
+      written = h .written ++ (r ∷ []);
+      grown = ap {B = List Reply} (λ z. z ++ (r ∷ [])) (h .grown) ∙ append-assoc before (h .written) (r ∷ []);
+      place = omega (arith, ea, h .place, length-append (h .written) (r ∷ []));
       buffer =
           eb
           ∙ ap {B = List ℕ} (λ z. over-at (records (r ∷ [])) at z) (h .buffer)
-          ∙ over-at-more (records (h .given)) (records (r ∷ [])) b₀ at₀ at (omega (arith, h .place, records-length (h .given))) (omega (arith, records-length (r ∷ [])))
-          ∙ ap (λ (z : List ℕ). over-at z at₀ b₀) (sym (records-append (h .given) (r ∷ [])));
+          ∙ over-at-more (records (h .written)) (records (r ∷ [])) b₀ at₀ at (omega (arith, h .place, records-length (h .written))) (omega (arith, records-length (r ∷ [])))
+          ∙ ap (λ (z : List ℕ). over-at z at₀ b₀) (sym (records-append (h .written) (r ∷ [])));
     }
 
 -- ---- F2 comes late enough
@@ -123,7 +123,7 @@ module _ (m₀ : Machine) (s : Span) (r t : ℕ) (recent : List ℕ) (base : ℕ
     pub within : r ≤ t
     pub machine : m₀ ≡ machineOf (stateAt T (t - r - 178))
     pub done : stateAt T (t - 178) .done ≡ stateAt T (t - r - 178) .done ++ l
-    pub room : at₀ + 18 * length l ≤ length b₀
+    pub room : at₀ + recordSize * length l ≤ length b₀
 
   -- the machine of the places and the counts is that of a state from which the rules lead on
   pub record At (T : Trace) (todo : ℕ) (b : List ℕ) (ps : List Place) (on risk : Words) (c : Counts) (at : ℕ) : Type 0 where
@@ -131,7 +131,7 @@ module _ (m₀ : Machine) (s : Span) (r t : ℕ) (recent : List ℕ) (base : ℕ
     pub held : Held T t todo state
     pub machine : machineIn ps c ≡ machineOf state
     pub marked : AllMarked t on risk ps
-    pub out : Given (stateAt T (t - r - 178) .done) (state .done) at₀ b₀ at b
+    pub out : Written (stateAt T (t - r - 178) .done) (state .done) at₀ b₀ at b
 
   pub record Working (b : List ℕ) (ps : List Place) (on risk : Words) (c : Counts) (at todo from : ℕ) : Type 0 where
     pub same : length b ≡ length b₀
@@ -164,7 +164,7 @@ module _ (m₀ : Machine) (s : Span) (r t : ℕ) (recent : List ℕ) (base : ℕ
               held = held-at T l g (64 - r) (t - r - 178) todo on risk ps c e td mk is;
               machine = is;
               marked = mk;
-              out = given-none (stateAt T (t - r - 178) .done) at₀ b₀;
+              out = written-none (stateAt T (t - r - 178) .done) at₀ b₀;
             };
       }
 
@@ -172,14 +172,14 @@ module _ (m₀ : Machine) (s : Span) (r t : ℕ) (recent : List ℕ) (base : ℕ
 
   -- what is done of a state on its way is part of what the block hands out in all
   room-for : (T : Trace) (l : List Reply) → Block T l → (c n : ℕ) → c ≤ t - 178 → n ≤ length (stateAt T c .done) → (done : List Reply) → length done ≤ n → (at : ℕ) (b : List ℕ)
-      → Given (stateAt T (t - r - 178) .done) done at₀ b₀ at b → at + 18 * (n - length done) ≤ length b₀
+      → Written (stateAt T (t - r - 178) .done) done at₀ b₀ at b → at + recordSize * (n - length done) ≤ length b₀
   room-for T l g c n h k done q at b o =
-      let E = edgeAt standard T in
+      let G = given standard T in
       let d = t - 178 - c in
       let z : d + c ≡ t - 178 = omega arith in
-      let u = subst (λ (m : ℕ). length (stateAt T c .done) ≤ length (stateAt T m .done)) z (done-grows standard E (edge-timed standard T) c d) in
+      let u = subst (λ (m : ℕ). length (stateAt T c .done) ≤ length (stateAt T m .done)) z (done-grows G (edge-timed standard T) c d) in
       let a = ap length (g .done) ∙ length-append (stateAt T (t - r - 178) .done) l in
-      let e = ap length (o .grown) ∙ length-append (stateAt T (t - r - 178) .done) (o .given) in
+      let e = ap length (o .grown) ∙ length-append (stateAt T (t - r - 178) .done) (o .written) in
       omega (arith, u, a, e, o .place, g .room, k)
 
   -- the tick u that the code visits is tick i of the span
@@ -200,7 +200,7 @@ module _ (m₀ : Machine) (s : Span) (r t : ℕ) (recent : List ℕ) (base : ℕ
     module _ (x : Bool) (ex : x ≡ test (ended u) (getD ps 0 idle)) (over : x ≡ true) (at′ : ℕ) (b′ : List ℕ) (size : length b′ ≡ length b)
         (hand : HandedPost 1 (dueSlot u (getD ps 0 idle .slot)) at b at′ b′) where
       handed : (T : Trace) (l : List Reply) → Block T l → (S : State) → Held T t todo S → machineIn ps c ≡ machineOf S
-          → Given (stateAt T (t - r - 178) .done) (S .done) at₀ b₀ at b → (live : List Reply) → S .live ≡ live → (on′ risk′ : Words) (ps′ : List Place) → on′ ≡ withoutWord 0 on
+          → Written (stateAt T (t - r - 178) .done) (S .done) at₀ b₀ at b → (live : List Reply) → S .live ≡ live → (on′ risk′ : Words) (ps′ : List Place) → on′ ≡ withoutWord 0 on
           → risk′ ≡ withoutWord 0 risk → ps′ ≡ withoutPlace 0 ps → AllMarked t on risk ps → At T todo b′ ps′ on′ risk′ c at′
       unfolding retired
       handed T l g S h is o [] el on′ risk′ ps′ eo er ep mk =
@@ -215,11 +215,11 @@ module _ (m₀ : Machine) (s : Span) (r t : ℕ) (recent : List ℕ) (base : ℕ
           let hd = subst (λ (m : List Reply). HandedPost 1 m at b at′ b′) due hand in
           let nx = h .next i u low z in
           let len =
-          ap (λ (y : State). length (y .done)) (sym (nx .1)) ∙ ap length (edge-done standard (edgeAt standard T u .pulse) (bracketAt standard (edgeAt standard T) u) (retired u S))
+          ap (λ (y : State). length (y .done)) (sym (nx .1)) ∙ ap length (edge-done standard (edgeAt standard T u .pulse) (bracketAt (given standard T) u) (retired u S))
           ∙ length-append (S .done) (filter (ended u) (S .live)) in
           let more : 1 ≤ length (filter (ended u) (S .live)) =
           subst (λ (m : List Reply). 1 ≤ length (filter (ended u) m)) (sym el) (subst (λ (y : Bool). 1 ≤ length (cond y (q ∷ filter (ended u) live) (filter (ended u) live))) (sym en) (omega arith)) in
-          let room : at + 18 ≤ length b₀ =
+          let room : at + recordSize ≤ length b₀ =
           omega (arith, room-for T l g (suc u) (length (stateAt T (suc u) .done)) (omega (arith, z, low .below)) (omega arith) (S .done) (omega (arith, len)) at b o, len, more) in
           record {
             state = record { done = S .done ++ (q ∷ []); live = live; counts = S .counts };
@@ -233,7 +233,7 @@ module _ (m₀ : Machine) (s : Span) (r t : ℕ) (recent : List ℕ) (base : ℕ
                 });
             marked = marked-left 0 t on risk on′ risk′ ps ps′ (omega arith) eo er ep mk;
             out =
-                given-more (stateAt T (t - r - 178) .done) (S .done) at₀ b₀ at b q at′ b′ o room (hd .place (omega (arith, room, w .same)))
+                written-more (stateAt T (t - r - 178) .done) (S .done) at₀ b₀ at b q at′ b′ o room (hd .place (omega (arith, room, w .same)))
                 (hd .buffer (omega (arith, room, w .same)));
           }
 
@@ -274,7 +274,7 @@ module _ (m₀ : Machine) (s : Span) (r t : ℕ) (recent : List ℕ) (base : ℕ
       module _ (f2 : Pulse) (eb : With f2 ≡ bracketIn s i u recent base values) (f : Firsts) (ef : f ≡ firstsOf ps) (busy : Bool) (y : Outcome) (op : OutcomePost f on risk i e (f2 .tick .0) (f2 .main) busy y)
           (k : ℕ) (ek : k ≡ removedBy y) (lk : k < 4) (n : Counts) (en : n ≡ countedBy y c) where
         less : (T : Trace) (l : List Reply) → Block T l → (S : State) → Held T t todo S → machineIn ps c ≡ machineOf S
-            → Given (stateAt T (t - r - 178) .done) (S .done) at₀ b₀ at b → (on′ risk′ : Words) (ps′ : List Place) → on′ ≡ withoutWord k on → risk′ ≡ withoutWord k risk
+            → Written (stateAt T (t - r - 178) .done) (S .done) at₀ b₀ at b → (on′ risk′ : Words) (ps′ : List Place) → on′ ≡ withoutWord k on → risk′ ≡ withoutWord k risk
             → ps′ ≡ withoutPlace k ps → AllMarked t on risk ps → At T todo b ps′ on′ risk′ n at
         less T l g S h is o on′ risk′ ps′ eo er ep mk =
             let v = seen T l g S h is in
@@ -290,7 +290,7 @@ module _ (m₀ : Machine) (s : Span) (r t : ℕ) (recent : List ℕ) (base : ℕ
             let rm = removes-main main clear busy K c (omega (arith, rk, lk)) in
             let there : test (isPhantom (P .tick .0)) (placeAt k (S .live)) ≡ true =
             last-there (isPhantom (P .tick .0)) ps (S .live) k (λ j. is j .places) (rk ∙ rm .2) lk in
-            let br : bracketAt standard (edgeAt standard T) u ≡ With f2 =
+            let br : bracketAt (given standard T) u ≡ With f2 =
             sym (eb ∙ span-bracket T s t (g .shows .spanned) recent base values (g .shows .reads) i u (low .below) (v .at-u)) in
             let ft = fits T (g .shows .bounded) u (v .stood) (h .from) S (h .next i u low (v .at-u) .0) (h .sound) in
             let ph : wrapped (S .counts .phantoms) 1 ≡ S .counts .phantoms + 1 = omega (arith, ft .counts .phantoms) in
@@ -329,14 +329,14 @@ module _ (m₀ : Machine) (s : Span) (r t : ℕ) (recent : List ℕ) (base : ℕ
         ready T S v (With f2) k = v .early (f2 .tick .0) (bracket-late s i u recent base values f2 k)
 
         taken : (T : Trace) (l : List Reply) → Block T l → (S : State) → Held T t todo S → machineIn ps c ≡ machineOf S
-            → Given (stateAt T (t - r - 178) .done) (S .done) at₀ b₀ at b → AllMarked t on risk ps → At T todo′ b ps′ on′ risk′ c′ at
+            → Written (stateAt T (t - r - 178) .done) (S .done) at₀ b₀ at b → AllMarked t on risk ps → At T todo′ b ps′ on′ risk′ c′ at
         taken T l g S h is o mk =
             let v = seen T l g S h is in
-            let E = edgeAt standard T in
-            let P = E u .pulse in
+            let G = given standard T in
+            let P = edgeAt standard T u .pulse in
             let te : e .tick .0 ≡ u = ap (λ (q : Pulse). q .tick .0) ee in
             let zz : t + i ≡ e .tick .0 + 242 = omega (arith, v .at-u, te) in
-            let B = bracketAt standard E u in
+            let B = bracketAt G u in
             let ob : br ≡ B = eb ∙ span-bracket T s t (g .shows .spanned) recent base values (g .shows .reads) i u (low .below) (v .at-u) in
             let x = vd .at t mk zz (ready T S v br eb) in
             let post : EdgePost (machineIn ps c) P B (machineIn ps′ c′) =
@@ -351,7 +351,7 @@ module _ (m₀ : Machine) (s : Span) (r t : ℕ) (recent : List ℕ) (base : ℕ
               held = held-at T l g (i + 1) (suc u) todo′ on′ risk′ ps′ c′ ec td (x .0) new;
               machine = new;
               marked = x .0;
-              out = subst (λ (q : List Reply). Given (stateAt T (t - r - 178) .done) q at₀ b₀ at b) dn o;
+              out = subst (λ (q : List Reply). Written (stateAt T (t - r - 178) .done) q at₀ b₀ at b) dn o;
             }
 
         pub work-taken : length ps′ ≡ 4 → Working b ps′ on′ risk′ c′ at todo′ (i + 1)
@@ -368,7 +368,7 @@ module _ (m₀ : Machine) (s : Span) (r t : ℕ) (recent : List ℕ) (base : ℕ
   -- the machine is that of the rules once t ticks are taken, and the records of the replies that the block hands out are in the buffer
   pub record Gives (T : Trace) (l : List Reply) (m : Machine) (at : ℕ) (b : List ℕ) : Type 0 where
     pub machine : m ≡ machineOf (stateAt T (t - 178))
-    pub place : at ≡ at₀ + 18 * length l
+    pub place : at ≡ at₀ + recordSize * length l
     pub buffer : b ≡ over-at (records l) at₀ b₀
 
   pub record Works (m : Machine) (at : ℕ) (b : List ℕ) : Type 0 where
@@ -382,7 +382,7 @@ module _ (m₀ : Machine) (s : Span) (r t : ℕ) (recent : List ℕ) (base : ℕ
     pub last : 179 ≤ t → retired (t - 179) state ≡ stateAt T (t - 178)
     pub soon : t < 179 → state ≡ stateAt T (t - 178)
     pub machine : machineIn ps c ≡ machineOf state
-    pub out : Given (stateAt T (t - r - 178) .done) (state .done) at₀ b₀ at b
+    pub out : Written (stateAt T (t - r - 178) .done) (state .done) at₀ b₀ at b
 
   pub record Ending (b : List ℕ) (ps : List Place) (c : Counts) (at : ℕ) : Type 0 where
     pub same : length b ≡ length b₀
@@ -413,7 +413,7 @@ module _ (m₀ : Machine) (s : Span) (r t : ℕ) (recent : List ℕ) (base : ℕ
               last = a .last refl;
               soon = a .soon refl;
               machine = sym em ∙ g .machine;
-              out = given-none (stateAt T (t - r - 178) .done) at₀ b₀;
+              out = written-none (stateAt T (t - r - 178) .done) at₀ b₀;
             };
       }
 
@@ -436,7 +436,7 @@ module _ (m₀ : Machine) (s : Span) (r t : ℕ) (recent : List ℕ) (base : ℕ
           go false q = absurd (impossible (sym (λ j. le-ltb t 179 late j || not (q j)) ∙ due))
 
       ended-last : (T : Trace) (l : List Reply) → Block T l → Last T b ps c at → (S : State) → Queue S → retired (t - 179) S ≡ stateAt T (t - 178) → machineIn ps c ≡ machineOf S
-          → Given (stateAt T (t - r - 178) .done) (S .done) at₀ b₀ at b → (live : List Reply) → S .live ≡ live → Last T b′ ps′ c at′
+          → Written (stateAt T (t - r - 178) .done) (S .done) at₀ b₀ at b → (live : List Reply) → S .live ≡ live → Last T b′ ps′ c at′
       unfolding retired
       ended-last T l g a S qu la is o [] el =
           let e : getD ps 0 idle ≡ placeAt 0 (S .live) = λ k. is k .places .p0 in
@@ -451,7 +451,7 @@ module _ (m₀ : Machine) (s : Span) (r t : ℕ) (recent : List ℕ) (base : ℕ
           let len = ap (λ (y : State). length (y .done)) (sym la) ∙ length-append (S .done) (filter (ended u) (S .live)) in
           let more : 1 ≤ length (filter (ended u) (S .live)) =
           subst (λ (m : List Reply). 1 ≤ length (filter (ended u) m)) (sym el) (subst (λ (y : Bool). 1 ≤ length (cond y (q ∷ filter (ended u) live) (filter (ended u) live))) (sym en) (omega arith)) in
-          let room : at + 18 ≤ length b₀ =
+          let room : at + recordSize ≤ length b₀ =
           omega (arith, room-for T l g (t - 178) (length (stateAt T (t - 178) .done)) (omega arith) (omega arith) (S .done) (omega (arith, len)) at b o, len, more) in
           let k = ap (length {A = Reply}) el in
           record {
@@ -466,7 +466,7 @@ module _ (m₀ : Machine) (s : Span) (r t : ℕ) (recent : List ℕ) (base : ℕ
                   counts = is j .counts;
                 });
             out =
-                given-more (stateAt T (t - r - 178) .done) (S .done) at₀ b₀ at b q at′ b′ o room (hd .place (omega (arith, room, w .same))) (hd .buffer (omega (arith, room, w .same)));
+                written-more (stateAt T (t - r - 178) .done) (S .done) at₀ b₀ at b q at′ b′ o room (hd .place (omega (arith, room, w .same))) (hd .buffer (omega (arith, room, w .same)));
           }
 
       pub end-over : Ending b′ ps′ c at′
@@ -486,10 +486,10 @@ module _ (m₀ : Machine) (s : Span) (r t : ℕ) (recent : List ℕ) (base : ℕ
           result = λ T l g.
               let a = w .state T l g in
               let is = final T a (leb 179 t) refl in
-              let e = append-same (stateAt T (t - r - 178) .done) (a .out .given) l (sym (a .out .grown) ∙ ap (λ (y : State). y .done) is ∙ g .done) in
+              let e = append-same (stateAt T (t - r - 178) .done) (a .out .written) l (sym (a .out .grown) ∙ ap (λ (y : State). y .done) is ∙ g .done) in
               record {
                 machine = a .machine ∙ ap machineOf is;
-                place = a .out .place ∙ ap (λ (y : List Reply). at₀ + 18 * length y) e;
+                place = a .out .place ∙ ap (λ (y : List Reply). at₀ + recordSize * length y) e;
                 buffer = a .out .buffer ∙ ap (λ (y : List Reply). over-at (records y) at₀ b₀) e;
               };
         }

@@ -3,6 +3,7 @@ use Prim.Native.Nat.{ℕ, _+_, _-_, _*_, _≤_}
 use mathlib.Core.List.{List}
 use mathlib.Core.Path.{_≡_}
 use lib.ListN.{length, take}
+use Rattle.rules.specs.Records.{recordSize}
 use Rattle.rules.specs.Settings.{standard}
 use Rattle.rules.specs.Samples.{Trace, _⧺_}
 use Rattle.rules.specs.Calls.{fresh}
@@ -27,7 +28,7 @@ pub record Enters (T : Trace) (o : Progress) (recent : List ℕ) (base : ℕ) (f
   pub alike-piece : length flags ≡ length values
   pub bounded : (n : ℕ) → n ≤ length flags → Bounded (T ⧺ upTo flags values n)
   pub reads : (n : ℕ) → n ≤ length flags → Reads (T ⧺ upTo flags values n) (base + n) recent base values
-  pub room : (n : ℕ) → n ≤ length flags → 18 * length (fresh standard T (upTo flags values n)) ≤ length b₀
+  pub room : (n : ℕ) → n ≤ length flags → recordSize * length (fresh standard T (upTo flags values n)) ≤ length b₀
 
 pub record BlocksPost (o : Progress) (recent : List ℕ) (base : ℕ) (flags values b : List ℕ) (y : Progress) (b′ : List ℕ) : Type 0 where
   pub same : length b′ ≡ length b

@@ -10,8 +10,8 @@ use Rattle.rules.specs.Lists.{All}
 use Rattle.rules.specs.Samples.{Trace, _⧺_, P, pieceLimit, sweepLimit}
 use Rattle.rules.specs.Edges.{stands, edgeAt}
 use Rattle.rules.specs.Replies.{ended}
-use Rattle.rules.specs.Machine.{State, after}
-use Rattle.rules.specs.Records.{records}
+use Rattle.rules.specs.Machine.{given, State, after}
+use Rattle.rules.specs.Records.{records, recordSize}
 use Rattle.rules.specs.Calls.{fresh}
 use Rattle.places.specs.Places.{test, machineOf}
 use Rattle.rules.specs.declared.Place.{Place}
@@ -42,7 +42,7 @@ blockLength n = cond (ltb n 64) n 64
 
 -- the state of the rules after the ticks below c
 abbrev pub stateAt : Trace → ℕ → State
-stateAt T c = after _+_ standard (edgeAt standard T) c
+stateAt T c = after _+_ (given standard T) c
 
 -- a trace on which sums of 16 bits are those of the rules: values are bytes, and edges stand below the limit of a sweep
 pub record Bounded (T : Trace) : Type 0 where
@@ -91,7 +91,7 @@ secondIn s i u recent base values =
 pub record Fed (T P : Trace) (b₀ : List ℕ) (y : Progress) (b : List ℕ) : Type 0 where
   pub front : y .front ≡ frontOf (T .flags ++ P .flags)
   pub machine : machineAt y ≡ machineOf (stateAt (T ⧺ P) (length (T .flags ++ P .flags) - 178))
-  pub place : y .at ≡ 18 * length (fresh standard T P)
+  pub place : y .at ≡ recordSize * length (fresh standard T P)
   pub buffer : b ≡ over-at (records (fresh standard T P)) 0 b₀
 
 -- the block Q comes next, which makes t ticks
@@ -101,7 +101,7 @@ pub record Next (T P Q : Trace) (t : ℕ) (recent : List ℕ) (base : ℕ) (valu
   pub ticks : length (T .flags) + length (P .flags) + length (Q .flags) ≡ t
   pub bounded : Bounded (T ⧺ (P ⧺ Q))
   pub reads : Reads (T ⧺ (P ⧺ Q)) t recent base values
-  pub room : 18 * length (fresh standard T (P ⧺ Q)) ≤ length b₀
+  pub room : recordSize * length (fresh standard T (P ⧺ Q)) ≤ length b₀
   pub same : length b ≡ length b₀
 
 -- what a block of r ticks with the planes p makes of o, and what it leaves in the buffer

@@ -1,9 +1,8 @@
 -- An opened sweep has no tick.
-use Prim.Native.Nat.{ℕ}
 use mathlib.Core.Path.{_≡_, sym, ap, _∙_}
-use mathlib.Core.List.{[]}
-use Rattle.rules.specs.Samples.{Trace}
-use Rattle.rules.specs.Calls.{Answer as RulesAnswer, accepted, refused, openAnswer}
+use Rattle.rules.specs.declared.Opening.{Opening}
+use Rattle.rules.specs.Samples.{nothing}
+use Rattle.rules.specs.Calls.{Refusal, Answer as RulesAnswer, accepted, refused, openAnswer}
 use Rattle.calls.specs.declared.Answer.{Answer}
 use Rattle.calls.specs.declared.Answer.the-variants.{Accepted, Refused}
 use Rattle.processor.specs.declared.Processor.{Processor}
@@ -11,20 +10,17 @@ use Rattle.calls.specs.declared.Opened.{Opened}
 use Rattle.processor.specs.State.{runningProcessor, idleProcessor}
 use Rattle.calls.specs.Post.{openAs, openOf}
 
-abbrev nothing : Trace
-nothing = record { flags = []; values = [] }
-
 -- ---- openings
 
 pub beside : (a : Answer) {p q : Processor} → p ≡ q → _≡_ {A = Opened} (record { answer = a; processor = p }) (record { answer = a; processor = q })
 beside a e = λ i. record { answer = a; processor = e i }
 
-pub open-no : (mode azimuth k : ℕ) (r : Opened) → openAnswer mode azimuth ≡ refused k → r ≡ record { answer = Refused k; processor = runningProcessor 0 0 nothing }
-    → r ≡ openOf mode azimuth
+pub open-no : (ω : Opening) (k : Refusal) (r : Opened) → openAnswer ω ≡ refused k → r ≡ record { answer = Refused (k .number); processor = runningProcessor (record { mode = 0; azimuth = 0 }) nothing }
+    → r ≡ openOf ω
 unfolding openOf idleProcessor
-open-no mode azimuth k r v e = e ∙ sym (ap (λ (x : RulesAnswer). openAs x mode azimuth) v)
+open-no ω k r v e = e ∙ sym (ap (λ (x : RulesAnswer). openAs x ω) v)
 
-pub open-yes : (mode azimuth : ℕ) (r : Opened) → openAnswer mode azimuth ≡ accepted → r ≡ record { answer = Accepted 0; processor = runningProcessor mode azimuth nothing }
-    → r ≡ openOf mode azimuth
+pub open-yes : (ω : Opening) (r : Opened) → openAnswer ω ≡ accepted → r ≡ record { answer = Accepted 0; processor = runningProcessor ω nothing }
+    → r ≡ openOf ω
 unfolding openOf
-open-yes mode azimuth r v e = e ∙ sym (ap (λ (x : RulesAnswer). openAs x mode azimuth) v)
+open-yes ω r v e = e ∙ sym (ap (λ (x : RulesAnswer). openAs x ω) v)

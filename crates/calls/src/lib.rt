@@ -1,7 +1,8 @@
 // What the operations return. `specs/Post.antt` has their contracts, `specs/Whole.antt` the theorem over all lists of calls.
 ghost use Prim.Native.Nat.{_/_};
-ghost use mathlib.Core.List.{[]};
 ghost use mathlib.Core.Path.{_≡_};
+ghost use Rattle.rules.specs.Samples.{nothing};
+ghost use Rattle.rules.specs.Records.{recordSize};
 ghost use Rattle.processor.specs.State.{idleProcessor, runningProcessor};
 ghost use Rattle.calls.specs.Post.{noTotals, totalsFrom};
 ghost use Rattle.calls.specs.declared.Answer.the-variants.{Accepted, Refused};
@@ -10,6 +11,8 @@ use processor::Progress;
 use processor::begun;
 use processor::idle;
 use rules::Counts;
+use rules::Opening;
+use rules::RECORD;
 use rules::Totals;
 
 // A call was carried out, with so many records written, or turned down with a number.
@@ -35,12 +38,12 @@ pub struct Closed {
 }
 
 // An answer beside the processor of a sweep with no tick taken.
-pub fn opened_with(answer: Answer, mode: u8, azimuth: u16) -> Opened
-    ensures { λ r. ⌜ r ≡ record { answer = answer; processor = runningProcessor mode azimuth (record { flags = []; values = [] }) } ⌝ }
+pub fn opened_with(answer: Answer, opening: Opening) -> Opened
+    ensures { λ r. ⌜ r ≡ record { answer = answer; processor = runningProcessor opening nothing } ⌝ }
 {
     Opened {
         answer,
-        processor: begun(mode, azimuth),
+        processor: begun(opening),
     }
 }
 
@@ -98,11 +101,11 @@ pub fn no_close(p: Processor, number: u8) -> Closed
 
 // What a close answers after the zeros past the end.
 pub fn closed_after(y: Progress) -> Closed
-    ensures { λ r. ⌜ r ≡ record { answer = Accepted (y .at / 18); totals = totalsFrom (y .counts); processor = idleProcessor } ⌝ }
+    ensures { λ r. ⌜ r ≡ record { answer = Accepted (y .at / recordSize); totals = totalsFrom (y .counts); processor = idleProcessor } ⌝ }
 {
     let counts = y.counts;
     Closed {
-        answer: Answer::Accepted(y.at / 18),
+        answer: Answer::Accepted(y.at / RECORD),
         totals: totals_of(counts),
         processor: idle(),
     }

@@ -11,45 +11,45 @@ use borrow.Author.Tests.{le-leb, lt-leb, leb-true, leb-false}
 use Rattle.rules.specs.declared.Reply.{Reply}
 use Rattle.rules.specs.declared.Totals.{Totals}
 use Rattle.rules.specs.Buffers.{over, over-at}
-use Rattle.rules.specs.Records.{recordOf, records, bytes}
+use Rattle.rules.specs.Records.{recordOf, records, bytes, recordSize}
 use Rattle.rules.proofs.Buffers.{bytes-two}
 use Rattle.rules.proofs.Joining.{records-length}
 use Rattle.hexadecimal.specs.Digits.{written}
 use Rattle.hexadecimal.proofs.Parts.{Putting, putting-start, putting-next}
 use Rattle.hexadecimal.proofs.Digits.{written-length}
-use Rattle.frames.specs.Writing.{replyLine, replyLines, recordLines, firstLines, totalsBytes, totalsLine}
+use Rattle.frames.specs.Writing.{replyLine, replyLines, recordLines, firstLines, totalsBytes, totalsLine, replyLineSize, totalsLineSize}
 use Rattle.frames.specs.Post.{WritePost}
 
 -- ---- records, each on a line
 
-lines-add : (k : ℕ) (l : List ℕ) → recordLines (suc k) l ≡ recordLines k l ++ written (17 ∷ take 18 (drop (18 * k) l))
-lines-add zero l = append-nil (written (17 ∷ take 18 l))
+lines-add : (k : ℕ) (l : List ℕ) → recordLines (suc k) l ≡ recordLines k l ++ written (17 ∷ take recordSize (drop (recordSize * k) l))
+lines-add zero l = append-nil (written (17 ∷ take recordSize l))
 lines-add (suc k) l =
-    ap (λ (r : List ℕ). written (17 ∷ take 18 l) ++ r) (lines-add k (drop 18 l))
-    ∙ sym (append-assoc (written (17 ∷ take 18 l)) (recordLines k (drop 18 l)) (written (17 ∷ take 18 (drop (18 * k) (drop 18 l)))))
-    ∙ ap (λ (r : List ℕ). (written (17 ∷ take 18 l) ++ recordLines k (drop 18 l)) ++ written (17 ∷ take 18 r)) (drop-drop (18 * k) 18 l ∙ ap (λ (i : ℕ). drop i l) {x = 18 + 18 * k} {y = 18 * suc k} (omega arith))
+    ap (λ (r : List ℕ). written (17 ∷ take recordSize l) ++ r) (lines-add k (drop recordSize l))
+    ∙ sym (append-assoc (written (17 ∷ take recordSize l)) (recordLines k (drop recordSize l)) (written (17 ∷ take recordSize (drop (recordSize * k) (drop recordSize l)))))
+    ∙ ap (λ (r : List ℕ). (written (17 ∷ take recordSize l) ++ recordLines k (drop recordSize l)) ++ written (17 ∷ take recordSize r)) (drop-drop (recordSize * k) recordSize l ∙ ap (λ (i : ℕ). drop i l) {x = 18 + recordSize * k} {y = recordSize * suc k} (omega arith))
 
-pub lines-length : (k : ℕ) (l : List ℕ) → 18 * k ≤ length l → length (recordLines k l) ≡ 39 * k
+pub lines-length : (k : ℕ) (l : List ℕ) → recordSize * k ≤ length l → length (recordLines k l) ≡ replyLineSize * k
 lines-length zero l h = refl
 lines-length (suc k) l h =
-    omega (arith, length-append (written (17 ∷ take 18 l)) (recordLines k (drop 18 l)), written-length (17 ∷ take 18 l), length-take-le 18 l (omega arith), lines-length k (drop 18 l) (omega (arith, length-drop 18 l)))
+    omega (arith, length-append (written (17 ∷ take recordSize l)) (recordLines k (drop recordSize l)), written-length (17 ∷ take recordSize l), length-take-le recordSize l (omega arith), lines-length k (drop recordSize l) (omega (arith, length-drop recordSize l)))
 
-module _ (l : List ℕ) (n : ℕ) (whole : 18 * n ≤ length l) where
+module _ (l : List ℕ) (n : ℕ) (whole : recordSize * n ≤ length l) where
   abbrev pub linesTo : ℕ → List ℕ
   linesTo k = recordLines k l
 
   pub lines-start : (at : ℕ) (b : List ℕ) → Putting linesTo n at b b 0
   lines-start at b = putting-start linesTo n at b refl
 
-  pub lines-next : (at : ℕ) (b₀ b b′ : List ℕ) (k from to : ℕ) → at + 39 * n ≤ length b₀ → k < n → from ≡ 18 * k → to ≡ from + 18
-      → b′ ≡ over-at (written (17 ∷ take (to - from) (drop from l))) (at + 39 * k) b → Putting linesTo n at b₀ b k → Putting linesTo n at b₀ b′ (k + 1)
+  pub lines-next : (at : ℕ) (b₀ b b′ : List ℕ) (k from to : ℕ) → at + replyLineSize * n ≤ length b₀ → k < n → from ≡ recordSize * k → to ≡ from + recordSize
+      → b′ ≡ over-at (written (17 ∷ take (to - from) (drop from l))) (at + replyLineSize * k) b → Putting linesTo n at b₀ b k → Putting linesTo n at b₀ b′ (k + 1)
   lines-next at b₀ b b′ k from to room s e e′ p h =
-      let part : take (to - from) (drop from l) ≡ take 18 (drop (18 * k) l) = ap₂ (λ (i j : ℕ). take i (drop j l)) {x = to - from} {y = 18} (omega (arith, e′)) e in
-      let here : length (linesTo k) ≡ 39 * k = lines-length k l (omega arith) in
-      putting-next linesTo n at b₀ b b′ (written (17 ∷ take (to - from) (drop from l))) k (at + 39 * k)
+      let part : take (to - from) (drop from l) ≡ take recordSize (drop (recordSize * k) l) = ap₂ (λ (i j : ℕ). take i (drop j l)) {x = to - from} {y = recordSize} (omega (arith, e′)) e in
+      let here : length (linesTo k) ≡ replyLineSize * k = lines-length k l (omega arith) in
+      putting-next linesTo n at b₀ b b′ (written (17 ∷ take (to - from) (drop from l))) k (at + replyLineSize * k)
       (ap linesTo {x = k + 1} {y = suc k} (omega arith) ∙ lines-add k l ∙ ap (λ (r : List ℕ). recordLines k l ++ written (17 ∷ r)) (sym part))
       (omega (arith, here))
-      (omega (arith, written-length (17 ∷ take (to - from) (drop from l)), ap length part, length-take-le 18 (drop (18 * k) l) (omega (arith, length-drop (18 * k) l))))
+      (omega (arith, written-length (17 ∷ take (to - from) (drop from l)), ap length part, length-take-le recordSize (drop (recordSize * k) l) (omega (arith, length-drop (recordSize * k) l))))
       s p h
 
   pub lines-end : (at : ℕ) (b₀ b : List ℕ) (k : ℕ) → n ≤ k → Putting linesTo n at b₀ b k → b ≡ over-at (recordLines n l) at b₀
@@ -65,15 +65,15 @@ reply-lines (r ∷ l) x =
     ∙ ap₂ (λ (y z : List ℕ). written (17 ∷ y) ++ recordLines (length l) z) (take-append-seam (recordOf r) (records l ++ x)) (drop-append-seam (recordOf r) (records l ++ x))
     ∙ ap (λ (z : List ℕ). replyLine r ++ z) (reply-lines l x)
 
-pub replies-length : (F : List Reply) → length (replyLines F) ≡ 39 * length F
+pub replies-length : (F : List Reply) → length (replyLines F) ≡ replyLineSize * length F
 replies-length F =
     ap length (sym (reply-lines F [])) ∙ lines-length (length F) (records F ++ []) (omega (arith, records-length F, length-append (records F) []))
 
 -- as many records as were handed out stand at the start of a lent buffer: their lines are those of the replies
-pub first-lines : (F : List Reply) (h h₀ : List ℕ) (n : ℕ) → h ≡ over (records F) h₀ → n ≡ length F → 18 * length F ≤ length h₀ → firstLines n h ≡ replyLines F
+pub first-lines : (F : List Reply) (h h₀ : List ℕ) (n : ℕ) → h ≡ over (records F) h₀ → n ≡ length F → recordSize * length F ≤ length h₀ → firstLines n h ≡ replyLines F
 unfolding over
 first-lines F h h₀ n is count few =
-    ap₂ recordLines {x = min n (length h / 18)} {y = length F} (omega (arith, count, few, ap length is, size)) is ∙ reply-lines F (drop (length (records F)) h₀)
+    ap₂ recordLines {x = min n (length h / recordSize)} {y = length F} (omega (arith, count, few, ap length is, size)) is ∙ reply-lines F (drop (length (records F)) h₀)
   where
     size : length (records F ++ drop (length (records F)) h₀) ≡ length h₀
     size = length-append (records F) (drop (length (records F)) h₀) ∙ omega (arith, few, records-length F, length-drop (length (records F)) h₀)
@@ -95,7 +95,7 @@ pub totals-size : (t : Totals) → length (totalsBytes t) ≡ 12
 unfolding totalsBytes bytes
 totals-size t = refl
 
-pub totals-length : (t : Totals) → length (totalsLine t) ≡ 27
+pub totals-length : (t : Totals) → length (totalsLine t) ≡ totalsLineSize
 unfolding totalsBytes bytes
 totals-length t = refl
 
@@ -123,13 +123,13 @@ module _ (l : List ℕ) (at : ℕ) (b : List ℕ) (n : ℕ) (size : length l ≡
       record { result = rw h (ap (λ (k : ℕ). at + k) (sym size)); buffer = rw h p }
 
 -- n of the records of l
-module _ (l : List ℕ) (count n : ℕ) (is : n ≡ min count (length l / 18)) (at : ℕ) (b : List ℕ) where
-  records-size : length (firstLines count l) ≡ 39 * n
-  records-size = lines-length (min count (length l / 18)) l (omega arith) ∙ ap (λ (k : ℕ). 39 * k) (sym is)
+module _ (l : List ℕ) (count n : ℕ) (is : n ≡ min count (length l / recordSize)) (at : ℕ) (b : List ℕ) where
+  records-size : length (firstLines count l) ≡ replyLineSize * n
+  records-size = lines-length (min count (length l / recordSize)) l (omega arith) ∙ ap (λ (k : ℕ). replyLineSize * k) (sym is)
 
-  pub records-none : length b < at + 39 * n → WritePost (firstLines count l) at b at b
-  records-none h = write-none (firstLines count l) at b (39 * n) records-size (lt-leb (at + 39 * n) (length b) h)
+  pub records-none : length b < at + replyLineSize * n → WritePost (firstLines count l) at b at b
+  records-none h = write-none (firstLines count l) at b (replyLineSize * n) records-size (lt-leb (at + replyLineSize * n) (length b) h)
 
-  pub records-all : at + 39 * n ≤ length b → (b′ : List ℕ) → b′ ≡ over-at (recordLines n l) at b → WritePost (firstLines count l) at b (at + 39 * n) b′
+  pub records-all : at + replyLineSize * n ≤ length b → (b′ : List ℕ) → b′ ≡ over-at (recordLines n l) at b → WritePost (firstLines count l) at b (at + replyLineSize * n) b′
   records-all h b′ p =
-      write-all (firstLines count l) at b (39 * n) records-size (le-leb (at + 39 * n) (length b) h) b′ (p ∙ ap (λ (k : ℕ). over-at (recordLines k l) at b) is)
+      write-all (firstLines count l) at b (replyLineSize * n) records-size (le-leb (at + replyLineSize * n) (length b) h) b′ (p ∙ ap (λ (k : ℕ). over-at (recordLines k l) at b) is)

@@ -3,22 +3,30 @@ ghost use Prim.Native.Nat.{_+_, _*_, _≤_, min};
 ghost use mathlib.Core.Path.{_≡_};
 ghost use lib.Dec.{leb};
 ghost use lib.ListN.{length};
+ghost use Rattle.rules.specs.Records.{recordSize};
 ghost use Rattle.rules.specs.Buffers.{over-at};
-ghost use Rattle.frames.specs.Writing.{recordLines, firstLines, totalsBytes, totalsLine, refusalLine};
+ghost use Rattle.frames.specs.Writing.{recordLines, firstLines, totalsBytes, totalsLine, refusalLine, replyLineSize};
 ghost use Rattle.frames.specs.Post.{WritePost};
 use hexadecimal::put_line;
+use rules::RECORD;
+use rules::TOTALS;
 use rules::Totals;
+
+// The bytes of the lines 11 and 12: two digits for each byte, and the newline.
+pub const REPLY_LINE: usize = 2 * (1 + RECORD) + 1;
+
+pub const TOTALS_LINE: usize = 2 * (1 + TOTALS) + 1;
 
 // The first n records, each on a line, from place at on.
 fn put_records(records: &[u8], n: usize, out: &mut [u8], at: usize)
-    requires { ⌜ (18 * n ≤ length (now records)) × (at + 39 * n ≤ length (now out)) ⌝ }
+    requires { ⌜ (recordSize * n ≤ length (now records)) × (at + replyLineSize * n ≤ length (now out)) ⌝ }
     ensures { λ _. ⌜ now (out .exit) ≡ over-at (recordLines n (now (records .entry))) at (now (out .entry)) ⌝ }
 {
     let mut k: usize = 0;
     while k < n {
-        let from = 18 * k;
-        let to = from + 18;
-        put_line(17, &records[from..to], out, at + 39 * k);
+        let from = RECORD * k;
+        let to = from + RECORD;
+        put_line(17, &records[from..to], out, at + REPLY_LINE * k);
         k += 1;
     }
 }
@@ -48,20 +56,20 @@ fn least(n: usize, most: usize) -> usize
 pub fn reply_lines(records: &[u8], count: usize, out: &mut [u8], at: usize) -> usize
     ensures { λ r. ⌜ WritePost (firstLines count (now (records .entry))) at (now (out .entry)) r (now (out .exit)) ⌝ }
 {
-    let n = least(count, records.len() / 18);
+    let n = least(count, records.len() / RECORD);
     let room = out.len();
     if room < at {
         return at;
     }
-    if (room - at) / 39 < n {
+    if (room - at) / REPLY_LINE < n {
         return at;
     }
     put_records(records, n, out, at);
-    at + 39 * n
+    at + REPLY_LINE * n
 }
 
 // The six totals, 2 bytes each, high byte first.
-pub fn totals_bytes(t: Totals) -> [u8; 12]
+pub fn totals_bytes(t: Totals) -> [u8; TOTALS]
     ensures { λ r. ⌜ r ≡ totalsBytes t ⌝ }
 {
     [
@@ -84,12 +92,12 @@ pub fn totals_bytes(t: Totals) -> [u8; 12]
 pub fn totals_line(t: Totals, out: &mut [u8], at: usize) -> usize
     ensures { λ r. ⌜ WritePost (totalsLine t) at (now (out .entry)) r (now (out .exit)) ⌝ }
 {
-    if !has_room(27, out, at) {
+    if !has_room(TOTALS_LINE, out, at) {
         return at;
     }
     let body = totals_bytes(t);
     put_line(18, &body, out, at);
-    at + 27
+    at + TOTALS_LINE
 }
 
 // The number of a refusal on a line 1f. Answers the place behind it.

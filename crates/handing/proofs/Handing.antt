@@ -11,7 +11,7 @@ use Rattle.rules.specs.declared.Slot.the-variants.{Idle, Open}
 use Rattle.rules.specs.Lists.{All}
 use Rattle.rules.specs.Replies.{f1, ended}
 use Rattle.rules.specs.Machine.{State}
-use Rattle.rules.specs.Records.{recordOf, records, replies}
+use Rattle.rules.specs.Records.{recordOf, records, replies, recordSize}
 use Rattle.rules.proofs.ListLaws.{all-map}
 use Rattle.rules.proofs.Order.{Rising, rising-all, Ordered, ended-earlier}
 use Rattle.places.specs.Places.{test, placed}
@@ -43,7 +43,7 @@ module _ (u at : ℕ) (b : List ℕ) where
       pub hand-open : ended u r ≡ false → HandedPost 1 (dueSlot u s) at b at b
       hand-open n = rw (e, n) (stay 1)
 
-      pub hand-short : ended u r ≡ true → length b < at + 18 → HandedPost 1 (dueSlot u s) at b at b
+      pub hand-short : ended u r ≡ true → length b < at + recordSize → HandedPost 1 (dueSlot u s) at b at b
       hand-short n l =
           rw (e, n)
           (record {
@@ -56,7 +56,7 @@ module _ (u at : ℕ) (b : List ℕ) where
             unwritten = λ h. refl;
           })
 
-      pub hand-done : ended u r ≡ true → at + 18 ≤ length b → (b′ : List ℕ) → b′ ≡ over-at (recordOf r) at b → HandedPost 1 (dueSlot u s) at b (at + 18) b′
+      pub hand-done : ended u r ≡ true → at + recordSize ≤ length b → (b′ : List ℕ) → b′ ≡ over-at (recordOf r) at b → HandedPost 1 (dueSlot u s) at b (at + recordSize) b′
       unfolding records
       hand-done n l b′ w =
           rw (e, n)

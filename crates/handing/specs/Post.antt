@@ -10,7 +10,7 @@ use Rattle.rules.specs.declared.Slot.the-variants.{Idle, Open}
 use Rattle.rules.specs.Lists.{All}
 use Rattle.rules.specs.Replies.{f1, ended}
 use Rattle.rules.specs.Machine.{State}
-use Rattle.rules.specs.Records.{records}
+use Rattle.rules.specs.Records.{records, recordSize}
 use Rattle.rules.specs.Buffers.{over-at}
 
 -- ---- the places
@@ -23,12 +23,12 @@ dueSlot u (Open r) = cond (ended u r) (r ∷ []) []
 -- The records of l, n at most, are written from place at on, if the buffer has room for them, else nothing; r is the place behind what is written.
 pub record HandedPost (n : ℕ) (l : List Reply) (at : ℕ) (b : List ℕ) (r : ℕ) (b′ : List ℕ) : Type 0 where
   pub from : at ≤ r
-  pub most : r ≤ at + 18 * n
+  pub most : r ≤ at + recordSize * n
   pub inside : at ≤ length b → r ≤ length b
-  pub place : at + 18 * length l ≤ length b → r ≡ at + 18 * length l
-  pub buffer : at + 18 * length l ≤ length b → b′ ≡ over-at (records l) at b
-  pub short : length b < at + 18 * length l → r ≡ at
-  pub unwritten : length b < at + 18 * length l → b′ ≡ b
+  pub place : at + recordSize * length l ≤ length b → r ≡ at + recordSize * length l
+  pub buffer : at + recordSize * length l ≤ length b → b′ ≡ over-at (records l) at b
+  pub short : length b < at + recordSize * length l → r ≡ at
+  pub unwritten : length b < at + recordSize * length l → b′ ≡ b
 
 -- ---- the rules
 

@@ -3,6 +3,7 @@ ghost use Rattle.handing.specs.Post.{dueSlot, HandedPost};
 use records::write_record;
 use replies::ended;
 use rules::Place;
+use rules::RECORD;
 use rules::Slot;
 use rules::Tick;
 
@@ -22,11 +23,11 @@ pub fn hand_one(p: Place, u: Tick, out: &mut [u8], at: usize) -> usize
             if len < at {
                 return at;
             }
-            if len - at < 18 {
+            if len - at < RECORD {
                 return at;
             }
             write_record(out, at, r);
-            at + 18
+            at + RECORD
         }
     }
 }

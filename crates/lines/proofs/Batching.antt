@@ -3,20 +3,21 @@ use Prim.Native.Nat.{ℕ, zero, suc, _+_, _-_, _*_, _≤_, _<_}
 use native.Mathlib.Omega.{arith}
 use mathlib.Core.Path.{_≡_, refl, sym, ap, ap₂, _∙_, subst}
 use mathlib.Core.Logic.{_⊎_, inl, inr}
-use mathlib.Core.Bool.{Bool, true, false, not, cond, _&&_, _||_}
+use mathlib.Core.Bool.{true, false, not, _&&_}
 use mathlib.Core.List.{List, [], _∷_, _++_, append-assoc, append-nil}
 use lib.Dec.{ltb, eqb}
 use lib.ListN.{length, getD, take, drop, set, length-append, take-append-drop}
 use lib.Seq.{length-take-le, take-suc, take-take, take-append-seam, take-at}
 use borrow.Author.Tests.{lt-leb, le-leb, eq-eqb, le-ltb}
+use Rattle.rules.specs.Records.{recordSize}
 use Rattle.rules.specs.declared.Reply.{Reply}
 use Rattle.rules.specs.Settings.{standard}
-use Rattle.rules.specs.Lists.{any}
-use Rattle.rules.specs.Samples.{Trace, _⧺_, bad, pieceLimit, sweepLimit}
+use Rattle.rules.specs.Samples.{Trace, nothing, _⧺_, bad, pieceLimit, sweepLimit}
 use Rattle.rules.specs.Buffers.{over, over-at}
-use Rattle.rules.specs.Calls.{Answer, accepted, refused, takeAnswer, takeRoom, fresh, handed}
-use Rattle.rules.proofs.Truth.{impossible, or-left, or-right}
-use Rattle.rules.proofs.ListLaws.{all-append}
+use Rattle.rules.specs.Calls.{check, notOpen, unequal, overlong, badFlag, Answer, accepted, refused, takeAnswer, takeRoom, fresh, handed}
+use Rattle.rules.proofs.Truth.{impossible}
+use Rattle.rules.proofs.ListLaws.{all-append, any-first, any-second}
+use Rattle.rules.proofs.Checks.{all-skip}
 use Rattle.rules.proofs.Buffers.{put-one, over-at-nil}
 use Rattle.rules.proofs.Joining.{handed-fresh, append-same, fresh-join}
 use Rattle.rules.proofs.HandingOut.{fresh-most}
@@ -37,11 +38,11 @@ use Rattle.lines.specs.declared.batch.Gathering.{Gathering}
 use Rattle.lines.specs.declared.batch.Batched.{Batched}
 use Rattle.lines.specs.declared.scan.Scan.the-variants.{Rest}
 use Rattle.ends.specs.Ends.{LineEnd}
-use Rattle.steps.specs.Outcomes.{Outcome, goes, takenAs, freshOf, outcomeAt, lineAt}
+use Rattle.steps.specs.Outcomes.{Outcome, goes, takenAs, freshOf, outcomeAt, lineAt, lineRoom}
 use Rattle.steps.specs.Post.{pieceOf, countIn}
 use Rattle.lines.specs.Survey.{linesIn, further, surveyed}
 use Rattle.lines.specs.Post.{Scans}
-use Rattle.lines.specs.Batches.{beginsSamples, samplesIn, AddPost, Takes, Gathered, GatherPost, batchAs, printedAs, TakeAllPost, BatchPost}
+use Rattle.lines.specs.Batches.{beginsSamples, samplesIn, AddPost, Takes, Gathered, GatherPost, batchAs, printedAs, TakeAllPost, BatchPost, batchRoom, batchMost}
 use Rattle.steps.proofs.Answering.{Wrote, write-inside, flags-lent, values-lent, said-most, turned-down, given-back, was-accepted, went-on, replies-wrote}
 use Rattle.lines.proofs.Scanning.{good-take, part, survey-first}
 
@@ -91,19 +92,19 @@ first-over l b = take-append-seam l (drop (length l) b)
 
 module _ (n : ℕ) (f₀ v₀ f v : List ℕ) (flags values : List ℕ) where
   added : (x : Reading) → Sized x → take (countIn (lineOf x)) (flagsAfter x f₀) ≡ samplesIn x .flags
-  added (opening mode azimuth) s = refl
+  added (opening ω) s = refl
   added (samples P) s = first-over (P .flags) f₀
   added closing s = refl
   added (unread k) s = refl
 
   added-values : (x : Reading) → Sized x → take (countIn (lineOf x)) (valuesAfter x v₀) ≡ samplesIn x .values
-  added-values (opening mode azimuth) s = refl
+  added-values (opening ω) s = refl
   added-values (samples P) s = ap (λ (k : ℕ). take k (over (P .values) v₀)) (s .alike) ∙ first-over (P .values) v₀
   added-values closing s = refl
   added-values (unread k) s = refl
 
   counted : (x : Reading) → countIn (lineOf x) ≡ length (samplesIn x .flags)
-  counted (opening mode azimuth) = refl
+  counted (opening ω) = refl
   counted (samples P) = refl
   counted closing = refl
   counted (unread k) = refl
@@ -138,72 +139,55 @@ module _ (n : ℕ) (f₀ v₀ f v : List ℕ) (flags values : List ℕ) where
 
 -- ---- a sweep that takes two traces end to end
 
-any-first : (l k : List ℕ) → any bad (l ++ k) ≡ false → any bad l ≡ false
-any-first [] k h = refl
-any-first (x ∷ l) k h = ap₂ (λ (a c : Bool). a || c) (or-left (bad x) (any bad (l ++ k)) h) (any-first l k (or-right (bad x) (any bad (l ++ k)) h))
-
-any-second : (l k : List ℕ) → any bad (l ++ k) ≡ false → any bad k ≡ false
-any-second [] k h = h
-any-second (x ∷ l) k h = any-second l k (or-right (bad x) (any bad (l ++ k)) h)
-
 takes-first : (σ : Sweep) (A B : Trace) → Takes σ (A ⧺ B) → Takes σ A
 takes-first σ A B t =
-    record { is-open = t .is-open; within = omega (arith, t .within, length-append (A .flags) (B .flags)); good = any-first (A .flags) (B .flags) (t .good) }
+    record { is-open = t .is-open; within = omega (arith, t .within, length-append (A .flags) (B .flags)); good = any-first bad (A .flags) (B .flags) (t .good) }
 
 takes-second : (σ : Sweep) (A B : Trace) → Takes σ (A ⧺ B) → Takes (longer σ A) B
 takes-second none A B t = absurd (impossible (sym (t .is-open)))
-takes-second (running mode azimuth T) A B t =
+takes-second (running ω T) A B t =
     record {
       is-open = refl;
       within = omega (arith, t .within, length-append (A .flags) (B .flags), length-append (T .flags) (A .flags));
-      good = any-second (A .flags) (B .flags) (t .good);
+      good = any-second bad (A .flags) (B .flags) (t .good);
     }
-
-skip : (c : Bool) (k : ℕ) (v : Answer) → c ≡ false → cond c (refused k) v ≡ v
-skip c k v e = ap (λ (t : Bool). cond t (refused k) v) e
 
 takes-accepted : (σ : Sweep) (P : Trace) (room : ℕ) → Takes σ P → length (P .flags) ≡ length (P .values) → length (P .flags) ≤ pieceLimit → takeRoom (length (P .flags)) ≤ room
     → takeAnswerAt σ P room ≡ accepted
 unfolding takeAnswerAt takeAnswer
 takes-accepted none P room t a p r = absurd (impossible (sym (t .is-open)))
-takes-accepted (running mode azimuth T) P room t a p r =
+takes-accepted (running ω T) P room t a p r =
     let n = length (P .flags) in
-    let v8 = cond (any bad (P .flags)) (refused 8) accepted in
-    let v7 = cond (ltb room (takeRoom n)) (refused 7) v8 in
-    let v6 = cond (ltb sweepLimit (length (T .flags) + n)) (refused 6) v7 in
-    let v5 = cond (ltb pieceLimit n) (refused 5) v6 in
-    skip (not (eqb n (length (P .values)))) 4 v5 (ap not (eq-eqb n (length (P .values)) a))
-    ∙ skip (ltb pieceLimit n) 5 v6 (le-ltb pieceLimit n p)
-    ∙ skip (ltb sweepLimit (length (T .flags) + n)) 6 v7 (le-ltb sweepLimit (length (T .flags) + n) (t .within))
-    ∙ skip (ltb room (takeRoom n)) 7 v8 (le-ltb room (takeRoom n) r)
-    ∙ skip (any bad (P .flags)) 8 accepted (t .good)
+    let m = length (T .flags) + n in
+    all-skip (notOpen true ∷ unequal P ∷ check 5 (ltb pieceLimit n) ∷ overlong m ∷ check 7 (ltb room (takeRoom n)) ∷ badFlag (P .flags) ∷ [])
+    (refl, (ap not (eq-eqb n (length (P .values)) a), (le-ltb pieceLimit n p, (le-ltb sweepLimit m (t .within), (le-ltb room (takeRoom n) r, (t .good, tt))))))
 
 accepted-takes : (σ : Sweep) (P : Trace) (room : ℕ) → takeAnswerAt σ P room ≡ accepted → Takes σ P
-unfolding takeAnswerAt takeAnswer
-accepted-takes none P room e = absurd (let z : _≡_ {A = ℕ} 0 1 = cc in omega arith)
-accepted-takes (running mode azimuth T) P room e =
-    let t = took true (length (T .flags)) (P .flags) (P .values) room e in
+unfolding takeAnswerAt
+accepted-takes none P room e = absurd (impossible (sym (took false 0 P room e .open-sweep)))
+accepted-takes (running ω T) P room e =
+    let t = took true (length (T .flags)) P room e in
     record { is-open = refl; within = t .sweep; good = t .good }
 
 -- ---- what two traces let out, and what they make of a sweep
 
-fresh-none : (σ : Sweep) → Sound σ → freshOf σ (record { flags = []; values = [] }) ≡ []
+fresh-none : (σ : Sweep) → Sound σ → freshOf σ nothing ≡ []
 fresh-none none s = refl
-fresh-none (running mode azimuth T) s =
-    append-same (handed standard T) (fresh standard T (record { flags = []; values = [] })) []
-    (sym (handed-fresh standard standard-allowed T (record { flags = []; values = [] }) (s .alike)) ∙ ap (handed standard) (join-nothing T) ∙ sym (append-nil (handed standard T)))
+fresh-none (running ω T) s =
+    append-same (handed standard T) (fresh standard T nothing) []
+    (sym (handed-fresh standard standard-allowed T nothing (s .alike)) ∙ ap (handed standard) (join-nothing T) ∙ sym (append-nil (handed standard T)))
 
-longer-none : (σ : Sweep) → longer σ (record { flags = []; values = [] }) ≡ σ
+longer-none : (σ : Sweep) → longer σ nothing ≡ σ
 longer-none none = refl
-longer-none (running mode azimuth T) = ap (running mode azimuth) (join-nothing T)
+longer-none (running ω T) = ap (running ω) (join-nothing T)
 
 longer-both : (σ : Sweep) (A B : Trace) → longer (longer σ A) B ≡ longer σ (A ⧺ B)
 longer-both none A B = refl
-longer-both (running mode azimuth T) A B = ap (running mode azimuth) (join-assoc T A B)
+longer-both (running ω T) A B = ap (running ω) (join-assoc T A B)
 
 fresh-both : (σ : Sweep) → Sound σ → (A B : Trace) → length (A .flags) ≡ length (A .values) → freshOf σ A ++ freshOf (longer σ A) B ≡ freshOf σ (A ⧺ B)
 fresh-both none s A B a = refl
-fresh-both (running mode azimuth T) s A B a = sym (fresh-join standard standard-allowed T A B (s .alike) a)
+fresh-both (running ω T) s A B a = sym (fresh-join standard standard-allowed T A B (s .alike) a)
 
 replies-both : (F G : List Reply) → replyLines (F ++ G) ≡ replyLines F ++ replyLines G
 replies-both [] G = refl
@@ -211,7 +195,7 @@ replies-both (r ∷ F) G = ap (λ (l : List ℕ). replyLine r ++ l) (replies-bot
 
 -- ---- the lines so far
 
-gathered-none : (input : List ℕ) (from : ℕ) → Gathered input from from (record { flags = []; values = [] })
+gathered-none : (input : List ℕ) (from : ℕ) → Gathered input from from nothing
 gathered-none input from =
     record {
       start = omega arith;
@@ -220,7 +204,7 @@ gathered-none input from =
       bytes = tt;
       same = λ σ s t R.
           ap (surveyed (linesIn (drop from input ++ R))) (sym (longer-none σ))
-          ∙ ap (λ (F : List Reply). replyLines F ++ surveyed (linesIn (drop from input ++ R)) (longer σ (record { flags = []; values = [] }))) (sym (fresh-none σ s));
+          ∙ ap (λ (F : List Reply). replyLines F ++ surveyed (linesIn (drop from input ++ R)) (longer σ nothing)) (sym (fresh-none σ s));
     }
 
 module _ (input : List ℕ) (from i to : ℕ) (T : Trace) (g : Gathered input from i T) (line : LineEnd input i to) where
@@ -238,7 +222,7 @@ module _ (input : List ℕ) (from i to : ℕ) (T : Trace) (g : Gathered input fr
       says : (σ : Sweep) → Takes σ P → lineAt σ (part input i to) ≡ goes (longer σ P) (replyLines (freshOf σ P))
       says σ t =
           ap (outcomeAt σ) e
-          ∙ ap (λ (v : Answer). takenAs v σ P) (takes-accepted σ P 72 t (z .alike) (omega (arith, z .most)) (omega (arith, z .most)))
+          ∙ ap (λ (v : Answer). takenAs v σ P) (takes-accepted σ P lineRoom t (z .alike) (omega (arith, z .most)) (omega (arith, z .most)))
 
       both : (σ : Sweep) → Sound σ → Takes σ (T ⧺ P) → (R : List ℕ)
           → surveyed (linesIn (drop from input ++ R)) σ ≡ replyLines (freshOf σ (T ⧺ P)) ++ surveyed (linesIn (drop to input ++ R)) (longer σ (T ⧺ P))
@@ -252,7 +236,7 @@ module _ (input : List ℕ) (from i to : ℕ) (T : Trace) (g : Gathered input fr
           (sym (replies-both (freshOf σ T) (freshOf (longer σ T) P)) ∙ ap replyLines (fresh-both σ s T P (g .alike))) (longer-both σ T P)
 
   line-more : (x : Reading) → reading (part input i to) ≡ x → Sized x → 0 < length (samplesIn x .flags) → Gathered input from to (T ⧺ samplesIn x)
-  line-more (opening mode azimuth) e z h = absurd (omega arith)
+  line-more (opening ω) e z h = absurd (omega arith)
   line-more (samples P) e z h = one-more P e z
   line-more closing e z h = absurd (omega arith)
   line-more (unread k) e z h = absurd (omega arith)
@@ -282,7 +266,7 @@ module _ (input : List ℕ) (from : ℕ) (flags₀ values₀ : List ℕ) where
       read-here = reading (part input i to)
 
       sizes : (y : Reading) → Sized y → (length (samplesIn y .flags) ≤ 64) × (length (samplesIn y .flags) ≡ length (samplesIn y .values))
-      sizes (opening mode azimuth) z = (omega arith, refl)
+      sizes (opening ω) z = (omega arith, refl)
       sizes (samples P) z = (z .most, z .alike)
       sizes closing z = (omega arith, refl)
       sizes (unread j) z = (omega arith, refl)
@@ -293,9 +277,9 @@ module _ (input : List ℕ) (from : ℕ) (flags₀ values₀ : List ℕ) where
       alike : length (samplesIn read-here .flags) ≡ length (samplesIn read-here .values)
       alike = sizes read-here (reading-sized (part input i to)) .1
 
-      nothing : (l b : List ℕ) → length l ≡ 0 → b ++ l ≡ b
-      nothing [] b e = append-nil b
-      nothing (x ∷ l) b e = absurd (omega (arith, e))
+      none-added : (l b : List ℕ) → length l ≡ 0 → b ++ l ≡ b
+      none-added [] b e = append-nil b
+      none-added (x ∷ l) b e = absurd (omega (arith, e))
 
       pub so-far-few : k ≤ 64
       so-far-few = omega (arith, short, p .count)
@@ -312,12 +296,12 @@ module _ (input : List ℕ) (from : ℕ) (flags₀ values₀ : List ℕ) where
         where
           flags-same : take n flags′ ≡ take n flags
           flags-same =
-              ap (λ (m : ℕ). take m flags′) {x = n} {y = n + k} (omega (arith, e)) ∙ p .flagBytes ∙ nothing (samplesIn read-here .flags) (take n flags) (omega (arith, e, p .count))
+              ap (λ (m : ℕ). take m flags′) {x = n} {y = n + k} (omega (arith, e)) ∙ p .flagBytes ∙ none-added (samplesIn read-here .flags) (take n flags) (omega (arith, e, p .count))
 
           values-same : take n values′ ≡ take n values
           values-same =
               ap (λ (m : ℕ). take m values′) {x = n} {y = n + k} (omega (arith, e)) ∙ p .valueBytes
-              ∙ nothing (samplesIn read-here .values) (take n values) (omega (arith, e, p .count, alike))
+              ∙ none-added (samplesIn read-here .values) (take n values) (omega (arith, e, p .count, alike))
 
       pub so-far-next : n ≤ 4032 → LineEnd input i to → (k ≡ 0 → ⊥) → SoFar input from flags₀ values₀ flags′ values′ to (n + k)
       so-far-next s line d =
@@ -337,11 +321,11 @@ part-short [] (suc n) m h = omega arith
 part-short (x ∷ l) (suc n) zero h = absurd (omega arith)
 part-short (x ∷ l) (suc n) (suc m) h = omega (arith, part-short l n m (omega arith))
 
-module _ (p : Processor) (T : Trace) (from to at : ℕ) (b : List ℕ) (room : at + 3120 ≤ length b) (small : length (T .flags) ≤ 4096)
-    (h₀ h : List ℕ) (lent : length h₀ ≡ 1440) (t : Taken) (post : TakePost p T h₀ t h) where
-  few : (σ : Sweep) → 18 * length (freshOf σ T) ≤ 1440
+module _ (p : Processor) (T : Trace) (from to at : ℕ) (b : List ℕ) (room : at + batchMost ≤ length b) (small : length (T .flags) ≤ 4096)
+    (h₀ h : List ℕ) (lent : length h₀ ≡ batchRoom) (t : Taken) (post : TakePost p T h₀ t h) where
+  few : (σ : Sweep) → recordSize * length (freshOf σ T) ≤ batchRoom
   few none = omega arith
-  few (running mode azimuth T₀) = omega (arith, fresh-most standard T₀ T)
+  few (running ω T₀) = omega (arith, fresh-most standard T₀ T)
 
   pub all-refused : (k : ℕ) → t .answer ≡ Refused k → TakeAllPost p T from to at b (record { processor = t .processor; from = from; at = at }) b
   all-refused k e =
@@ -349,9 +333,9 @@ module _ (p : Processor) (T : Trace) (from to at : ℕ) (b : List ℕ) (room : a
         either = inl refl;
         inside = omega arith;
         result = λ σ m.
-            ap (λ (q : Processor). record { processor = q; from = from; at = at }) (given-back p at b T 1440 few h₀ h lent t post k e σ m)
-            ∙ ap (λ (v : Answer). batchAs v σ T p from to at) (sym (turned-down p at b T 1440 few h₀ h lent t post k e σ m));
-        output = λ σ m. sym (over-at-nil at b) ∙ ap (λ (v : Answer). over-at (printedAs v σ T) at b) (sym (turned-down p at b T 1440 few h₀ h lent t post k e σ m));
+            ap (λ (q : Processor). record { processor = q; from = from; at = at }) (given-back p at b T batchRoom few h₀ h lent t post k e σ m)
+            ∙ ap (λ (v : Answer). batchAs v σ T p from to at) (sym (turned-down p at b T batchRoom few h₀ h lent t post k e σ m));
+        output = λ σ m. sym (over-at-nil at b) ∙ ap (λ (v : Answer). over-at (printedAs v σ T) at b) (sym (turned-down p at b T batchRoom few h₀ h lent t post k e σ m));
       }
 
   pub all-accepted : (n : ℕ) → t .answer ≡ Accepted n → (e : ℕ) (b′ : List ℕ) → WritePost (firstLines n h) at b e b′
@@ -361,16 +345,16 @@ module _ (p : Processor) (T : Trace) (from to at : ℕ) (b : List ℕ) (room : a
         either = inr refl;
         inside = write-inside (firstLines n h) at b e b′ (omega arith) w;
         result = λ σ m.
-            ap₂ (λ (x : ℕ) (y : Processor). record { processor = y; from = to; at = x }) (put σ m .place) (went-on p at b T 1440 few h₀ h lent t post n q σ m)
+            ap₂ (λ (x : ℕ) (y : Processor). record { processor = y; from = to; at = x }) (put σ m .place) (went-on p at b T batchRoom few h₀ h lent t post n q σ m)
             ∙ ap (λ (v : Answer). batchAs v σ T p from to at) (sym (accepts σ m));
         output = λ σ m. put σ m .buffer ∙ ap (λ (v : Answer). over-at (printedAs v σ T) at b) (sym (accepts σ m));
       }
     where
-      accepts : (σ : Sweep) → Made σ p → takeAnswerAt σ T 1440 ≡ accepted
-      accepts σ m = was-accepted p at b T 1440 few h₀ h lent t post n q σ m
+      accepts : (σ : Sweep) → Made σ p → takeAnswerAt σ T batchRoom ≡ accepted
+      accepts σ m = was-accepted p at b T batchRoom few h₀ h lent t post n q σ m
 
       put : (σ : Sweep) → Made σ p → Wrote (replyLines (freshOf σ T)) at b e b′
-      put σ m = replies-wrote p at b T 1440 few h₀ h lent t post n q σ m e b′ (omega (arith, few σ)) w
+      put σ m = replies-wrote p at b T batchRoom few h₀ h lent t post n q σ m e b′ (omega (arith, few σ)) w
 
 -- ---- the lines of the piece
 
@@ -384,21 +368,21 @@ batch-nothing p input from at b =
       scans = λ σ m. record { new = []; next = σ; made = m; place = omega arith; output = sym (over-at-nil at b); why = tt; same = λ R. refl };
     }
 
-module _ (p : Processor) (input : List ℕ) (from to at : ℕ) (b : List ℕ) (room : at + 3120 ≤ length b) (T : Trace) (g : Gathered input from to T)
+module _ (p : Processor) (input : List ℕ) (from to at : ℕ) (b : List ℕ) (room : at + batchMost ≤ length b) (T : Trace) (g : Gathered input from to T)
     (r : Batched) (b′ : List ℕ) (post : TakeAllPost p T from to at b r b′) where
-  scans-by : (σ : Sweep) (m : Made σ p) (v : Answer) → takeAnswerAt σ T 1440 ≡ v
+  scans-by : (σ : Sweep) (m : Made σ p) (v : Answer) → takeAnswerAt σ T batchRoom ≡ v
       → Scans σ input from at b (record { scan = Rest; processor = r .processor; from = r .from; at = r .at }) b′
   scans-by σ m accepted e =
       let is : r ≡ batchAs accepted σ T p from to at = post .result σ m ∙ ap (λ (v : Answer). batchAs v σ T p from to at) e in
       record {
         new = replyLines (freshOf σ T);
         next = longer σ T;
-        made = record { is = ap (λ (x : Batched). x .processor) is; sound = good-take σ (m .sound) T (g .bytes) 1440 accepted e };
+        made = record { is = ap (λ (x : Batched). x .processor) is; sound = good-take σ (m .sound) T (g .bytes) batchRoom accepted e };
         place = ap (λ (x : Batched). x .at) is;
         output = post .output σ m ∙ ap (λ (v : Answer). over-at (printedAs v σ T) at b) e;
         why = tt;
         same = λ R.
-            g .same σ (m .sound) (accepted-takes σ T 1440 e) R
+            g .same σ (m .sound) (accepted-takes σ T batchRoom e) R
             ∙ ap (λ (k : ℕ). replyLines (freshOf σ T) ++ surveyed (linesIn (drop k input ++ R)) (longer σ T)) (sym (ap (λ (x : Batched). x .from) is));
       }
   scans-by σ m (refused k) e =
@@ -420,7 +404,7 @@ module _ (p : Processor) (input : List ℕ) (from to at : ℕ) (b : List ℕ) (r
         reach = λ h. reaches h (post .either);
         inside = λ h. post .inside;
         past-end = λ h. absurd (omega (arith, room, h));
-        scans = λ σ m. scans-by σ m (takeAnswerAt σ T 1440) refl;
+        scans = λ σ m. scans-by σ m (takeAnswerAt σ T batchRoom) refl;
       }
     where
       begins : (r .from ≡ from) ⊎ (r .from ≡ to) → from ≤ r .from

@@ -3,23 +3,24 @@ use Prim.Native.Nat.{ℕ, suc, _+_, _-_, _≤_, _<_}
 use native.Mathlib.Omega.{arith}
 use mathlib.Core.Path.{_≡_, refl, sym, ap, ap₂, _∙_, subst}
 use mathlib.Core.Logic.{_⊎_, inl, inr}
-use mathlib.Core.Bool.{Bool, true, false, not, cond, _&&_}
+use mathlib.Core.Bool.{Bool, true, false}
 use mathlib.Core.List.{List, [], _∷_, _++_, append-assoc, append-nil}
-use lib.Dec.{leb, ltb, eqb}
+use lib.Dec.{leb, eqb}
 use lib.ListN.{length, getD, take, drop, length-append, length-drop, take-append-drop}
 use lib.Seq.{getD-take, getD-drop, length-take-le, drop-drop, take-suc}
 use borrow.Author.Tests.{leb-true, leb-false, eqb-true, eqb-false, ne-eqb}
+use Rattle.rules.specs.declared.Opening.{Opening}
 use Rattle.rules.specs.Lists.{All}
 use Rattle.rules.specs.Samples.{Trace}
 use Rattle.rules.specs.Buffers.{over-at}
-use Rattle.rules.specs.Calls.{Answer, accepted, refused, openAnswer}
-use Rattle.rules.proofs.Truth.{and-left}
+use Rattle.rules.specs.Calls.{Answer, accepted, refused, openAnswer, closeRoom}
 use Rattle.rules.proofs.ListLaws.{all-append}
 use Rattle.rules.proofs.Buffers.{over-at-nil, over-at-next}
 use Rattle.processor.specs.declared.Processor.{Processor}
 use Rattle.processor.specs.State.{Sweep, none, running, processorOf, Sound, Made}
 use Rattle.calls.specs.Post.{takeAnswerAt, closeAnswerAt}
-use Rattle.rules.proofs.Answers.{took}
+use Rattle.rules.proofs.Answers.{named}
+use Rattle.calls.proofs.Fold.{within-more}
 use Rattle.reading.specs.Frames.{Reading, opening, samples, closing, reading, refused as unread}
 use Rattle.frames.specs.Writing.{refusalLine}
 use Rattle.reading.proofs.Sizes.{Sized, reading-sized, no-newline, too-long}
@@ -28,8 +29,8 @@ use Rattle.ends.proofs.Newlines.{Plain, plain, plain-last}
 use Rattle.steps.specs.declared.Step.{Step}
 use Rattle.steps.specs.declared.Step.the-variants.{Goes, Stops, Full}
 use Rattle.steps.specs.declared.Stepped.{Stepped}
-use Rattle.steps.specs.Outcomes.{Outcome, goes, stops, openedAs, takenAs, closedAs, outcomeAt, lineAt, printed}
-use Rattle.steps.specs.Post.{steppedAs, outputAs, hasRoom, placeOf, StepPost}
+use Rattle.steps.specs.Outcomes.{Outcome, goes, stops, openedAs, takenAs, closedAs, outcomeAt, lineAt, printed, lineRoom}
+use Rattle.steps.specs.Post.{steppedAs, outputAs, hasRoom, placeOf, StepPost, lineMost}
 use Rattle.steps.proofs.Rest.{nine, rest-nine}
 use Rattle.lines.specs.declared.scan.Scan.the-variants.{Rest, Stopped, Full as NoRoom}
 use Rattle.lines.specs.Survey.{onto, linesIn, further, surveyed}
@@ -151,38 +152,25 @@ abbrev pub Good : Outcome → Type 0
 Good (goes σ l) = Sound σ
 Good (stops k) = Unit {0}
 
-good-open : (mode azimuth : ℕ) → Good (openedAs (openAnswer mode azimuth) mode azimuth)
-unfolding openAnswer
-good-open mode azimuth = go (leb 1 mode && leb mode 3) (ltb 16383 azimuth) refl
-  where
-    go : (a b : Bool) → (leb 1 mode && leb mode 3) ≡ a → Good (openedAs (cond (not a) (refused 1) (cond b (refused 2) accepted)) mode azimuth)
-    go false b e = tt
-    go true true e = tt
-    go true false e =
-        record { named = leb-true 1 mode (and-left (leb 1 mode) (leb mode 3) e); alike = refl; short = omega arith; bytes = tt }
+good-open : (ω : Opening) (v : Answer) → openAnswer ω ≡ v → Good (openedAs v ω)
+good-open ω accepted e = record { named = named ω e .least; alike = refl; short = omega arith; bytes = tt }
+good-open ω (refused k) e = tt
 
 pub good-take : (σ : Sweep) → Sound σ → (P : Trace) → All (λ v. v ≤ 255) (P .values) → (room : ℕ) (v : Answer) → takeAnswerAt σ P room ≡ v → Good (takenAs v σ P)
 unfolding takeAnswerAt
 good-take none s P b room accepted e = tt
 good-take none s P b room (refused k) e = tt
-good-take (running mode azimuth T) s P b room (refused k) e = tt
-good-take (running mode azimuth T) s P b room accepted e =
-    let t = took true (length (T .flags)) (P .flags) (P .values) room e in
-    record {
-      named = s .named;
-      alike = length-append (T .flags) (P .flags) ∙ ap₂ (λ (x y : ℕ). x + y) (s .alike) (t .alike) ∙ sym (length-append (T .values) (P .values));
-      short = omega (arith, length-append (T .flags) (P .flags), t .sweep);
-      bytes = all-append (λ v. v ≤ 255) (T .values) (P .values) (s .bytes) b;
-    }
+good-take (running ω T) s P b room (refused k) e = tt
+good-take (running ω T) s P b room accepted e = within-more ω T P room s b e
 
 good-close : (σ : Sweep) (v : Answer) → Good (closedAs v σ)
 good-close σ accepted = tt
 good-close σ (refused k) = tt
 
 good-outcome : (σ : Sweep) → Sound σ → (x : Reading) → Sized x → Good (outcomeAt σ x)
-good-outcome σ s (opening mode azimuth) z = good-open mode azimuth
-good-outcome σ s (samples P) z = good-take σ s P (z .bytes) 72 (takeAnswerAt σ P 72) refl
-good-outcome σ s closing z = good-close σ (closeAnswerAt σ 144)
+good-outcome σ s (opening ω) z = good-open ω (openAnswer ω) refl
+good-outcome σ s (samples P) z = good-take σ s P (z .bytes) lineRoom (takeAnswerAt σ P lineRoom) refl
+good-outcome σ s closing z = good-close σ (closeAnswerAt σ closeRoom)
 good-outcome σ s (unread k) z = tt
 
 good-line : (σ : Sweep) → Sound σ → (l : List ℕ) → Good (lineAt σ l)
@@ -314,7 +302,7 @@ module _ (p : Processor) (input : List ℕ) (from at : ℕ) (b₀ : List ℕ) wh
             let d = h .scans σ m in
             let o = lineAt (d .next) (part input i to) in
             let w = went (hasRoom place b) o q place s e (step .result (d .next) (d .made)) kind in
-            let room = leb-true (place + 339) (length b) (w .room) in
+            let room = leb-true (place + lineMost) (length b) (w .room) in
             let out : b′ ≡ over-at (w .new) place b =
             step .output (d .next) (d .made) ∙ ap₂ (λ (t : Bool) (x : Outcome). outputAs t x place b) (w .room) (w .is) in
             record {
@@ -361,7 +349,7 @@ module _ (p : Processor) (input : List ℕ) (from at : ℕ) (b₀ : List ℕ) wh
                 let d = h .scans σ m in
                 let o = lineAt (d .next) (part input i to) in
                 let w = stood (hasRoom place b) o q place s k e (step .result (d .next) (d .made)) kind in
-                let room = leb-true (place + 339) (length b) (w .room) in
+                let room = leb-true (place + lineMost) (length b) (w .room) in
                 let out : b′ ≡ over-at (refusalLine k) place b =
                 step .output (d .next) (d .made) ∙ ap₂ (λ (t : Bool) (x : Outcome). outputAs t x place b) (w .room) (w .is) in
                 record {
@@ -386,7 +374,7 @@ module _ (p : Processor) (input : List ℕ) (from at : ℕ) (b₀ : List ℕ) wh
             because = λ σ m.
                 let d = h .scans σ m in
                 let w = stuck (hasRoom place b) (lineAt (d .next) (part input i to)) q place s (step .result (d .next) (d .made)) kind in
-                omega (arith, leb-false (place + 339) (length b) (w .room), h .size);
+                omega (arith, leb-false (place + lineMost) (length b) (w .room), h .size);
             scans = λ σ m.
                 let d = h .scans σ m in
                 let o = lineAt (d .next) (part input i to) in

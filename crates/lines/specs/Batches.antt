@@ -1,5 +1,5 @@
 -- Lines of samples that are taken as one piece.
-use Prim.Native.Nat.{ℕ, _+_, _≤_, _<_}
+use Prim.Native.Nat.{ℕ, _+_, _*_, _≤_, _<_}
 use mathlib.Core.Bool.{Bool, true, false, _&&_}
 use mathlib.Core.List.{List, [], _++_}
 use mathlib.Core.Path.{_≡_}
@@ -7,14 +7,14 @@ use mathlib.Core.Logic.{_⊎_}
 use lib.Dec.{leb, eqb}
 use lib.ListN.{length, getD, take, drop}
 use Rattle.rules.specs.Lists.{any, All}
-use Rattle.rules.specs.Samples.{Trace, bad, sweepLimit}
+use Rattle.rules.specs.Samples.{Trace, bad, sweepLimit, pieceLimit}
 use Rattle.rules.specs.Buffers.{over-at}
-use Rattle.rules.specs.Calls.{Answer, accepted, refused}
+use Rattle.rules.specs.Calls.{Answer, accepted, refused, mostReplies, takeRoom}
 use Rattle.processor.specs.declared.Processor.{Processor}
 use Rattle.processor.specs.State.{Sweep, isOpen, takenBy, processorOf, Sound, Made}
 use Rattle.calls.specs.Post.{longer, takeAnswerAt}
 use Rattle.reading.specs.Frames.{Reading, opening, samples, closing, reading, refused as unread}
-use Rattle.frames.specs.Writing.{replyLines}
+use Rattle.frames.specs.Writing.{replyLines, replyLineSize}
 use Rattle.lines.specs.declared.batch.Gathering.{Gathering}
 use Rattle.lines.specs.declared.batch.Batched.{Batched}
 use Rattle.lines.specs.declared.scan.Scan.the-variants.{Rest}
@@ -31,7 +31,7 @@ beginsSamples input from = leb (from + 2) (length input) && (eqb (getD input fro
 
 -- what a line adds: its samples, and nothing where it says something else
 abbrev pub samplesIn : Reading → Trace
-samplesIn (opening mode azimuth) = pieceOf [] []
+samplesIn (opening ω) = pieceOf [] []
 samplesIn (samples P) = P
 samplesIn closing = pieceOf [] []
 samplesIn (unread k) = pieceOf [] []
@@ -65,6 +65,13 @@ pub record GatherPost (input : List ℕ) (from : ℕ) (r : Gathering) (flags val
 
 -- ---- the piece
 
+-- the buffer that is lent for it, and the most that it prints
+abbrev pub batchRoom : ℕ
+batchRoom = takeRoom pieceLimit
+
+abbrev pub batchMost : ℕ
+batchMost = mostReplies pieceLimit * replyLineSize
+
 -- it is taken and its replies printed, or nothing happens
 abbrev pub batchAs : Answer → Sweep → Trace → Processor → (from to at : ℕ) → Batched
 batchAs accepted σ T p from to at = record { processor = processorOf (longer σ T); from = to; at = at + length (replyLines (freshOf σ T)) }
@@ -77,8 +84,8 @@ printedAs (refused k) σ T = []
 pub record TakeAllPost (p : Processor) (T : Trace) (from to at : ℕ) (b : List ℕ) (r : Batched) (b′ : List ℕ) : Type 0 where
   pub either : (r .from ≡ from) ⊎ (r .from ≡ to)
   pub inside : r .at ≤ length b
-  pub result : (σ : Sweep) → Made σ p → r ≡ batchAs (takeAnswerAt σ T 1440) σ T p from to at
-  pub output : (σ : Sweep) → Made σ p → b′ ≡ over-at (printedAs (takeAnswerAt σ T 1440) σ T) at b
+  pub result : (σ : Sweep) → Made σ p → r ≡ batchAs (takeAnswerAt σ T batchRoom) σ T p from to at
+  pub output : (σ : Sweep) → Made σ p → b′ ≡ over-at (printedAs (takeAnswerAt σ T batchRoom) σ T) at b
 
 -- the lines so far are carried out; behind the end of the output nothing happens
 pub record BatchPost (p : Processor) (input : List ℕ) (from at : ℕ) (b : List ℕ) (r : Batched) (b′ : List ℕ) : Type 0 where

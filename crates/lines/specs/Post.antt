@@ -3,6 +3,7 @@ use Prim.Native.Nat.{ℕ, _+_, _-_, _≤_, _<_}
 use mathlib.Core.List.{List, [], _++_}
 use mathlib.Core.Path.{_≡_}
 use lib.ListN.{length, take, drop}
+use Rattle.steps.specs.Post.{lineMost}
 use Rattle.rules.specs.Buffers.{over-at}
 use Rattle.processor.specs.declared.Processor.{Processor}
 use Rattle.processor.specs.State.{Sweep, Made}
@@ -47,7 +48,7 @@ pub record Scans (σ : Sweep) (input : List ℕ) (from at : ℕ) (b : List ℕ) 
 -- why it came to an end: the rest has no newline and is shorter than a line may be, or the output has no room for what a line may print
 abbrev pub Because : Scan → List ℕ → ℕ → ℕ → List ℕ → Type 0
 Because Rest input from at b = LinePast input from
-Because NoRoom input from at b = length b < at + 339
+Because NoRoom input from at b = length b < at + lineMost
 Because (Stopped k) input from at b = Unit {0}
 
 pub record ScanPost (p : Processor) (input : List ℕ) (from at : ℕ) (b : List ℕ) (r : Scanned) (b′ : List ℕ) : Type 0 where

@@ -4,20 +4,26 @@ ghost use mathlib.Core.Path.{_≡_};
 ghost use lib.ListN.{length, take};
 ghost use Rattle.rules.specs.Buffers.{over-at};
 ghost use Rattle.steps.specs.Post.{countIn, pieceOf};
-ghost use Rattle.lines.specs.Batches.{beginsSamples, AddPost, GatherPost, TakeAllPost, BatchPost};
+ghost use Rattle.lines.specs.Batches.{beginsSamples, AddPost, GatherPost, TakeAllPost, BatchPost, batchMost};
 use calls::Answer;
 use ends::End;
 use ends::line_end;
+use frames::REPLY_LINE;
 use frames::has_room;
 use frames::reply_lines;
 use processor::Processor;
 use reading::Frame;
 use reading::Line;
 use reading::read;
+use rules::RECORD;
 use sweep::take;
 
-// 80 replies of 39 bytes: the most that 4,096 ticks print.
-const MOST: usize = 3120;
+// The most replies of 4,096 ticks, the bytes of the buffer for them, and those that they print.
+const REPLIES: usize = 80;
+
+const ROOM: usize = RECORD * REPLIES;
+
+const MOST: usize = REPLIES * REPLY_LINE;
 
 // n samples, from lines that end before `end`.
 struct Gathering {
@@ -51,7 +57,7 @@ fn count_in(line: Line) -> usize
         return 0;
     };
     match frame {
-        Frame::Open(_, _) => 0,
+        Frame::Open(_) => 0,
         Frame::Samples(n) => n,
         Frame::Close => 0,
     }
@@ -104,10 +110,10 @@ fn take_all(
     out: &mut [u8],
     at: usize,
 ) -> Batched
-    requires { ⌜ (length (now flags) ≤ 4096) × (at + 3120 ≤ length (now out)) ⌝ }
+    requires { ⌜ (length (now flags) ≤ 4096) × (at + batchMost ≤ length (now out)) ⌝ }
     ensures { λ r. ⌜ TakeAllPost p (pieceOf (now (flags .entry)) (now (values .entry))) from to at (now (out .entry)) r (now (out .exit)) ⌝ }
 {
-    let mut handed = [0u8; 1440];
+    let mut handed = [0u8; ROOM];
     let t = take(p, flags, values, &mut handed);
     let answer = t.answer;
     let next = t.processor;

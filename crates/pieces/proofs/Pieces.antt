@@ -4,17 +4,17 @@ use native.Mathlib.Omega.{arith}
 use mathlib.Core.Path.{_≡_, refl, sym, ap, ap₂, _∙_, subst}
 use mathlib.Core.Bool.{true}
 use mathlib.Core.List.{List, [], _∷_, _++_}
-use lib.ListN.{length, getD, take, replicate, length-append, length-take, length-replicate, replicate-append-replicate}
+use lib.ListN.{length, getD, take, drop, take-append-drop, replicate, length-append, length-take, length-replicate, replicate-append-replicate}
 use lib.Seq.{getD-take, take-append-add, length-take-le}
+use Rattle.rules.specs.Records.{recordSize}
 use Rattle.rules.specs.Settings.{standard}
 use Rattle.rules.specs.Lists.{All}
-use Rattle.rules.specs.Samples.{Trace, _⧺_, A}
+use Rattle.rules.specs.Samples.{Trace, lent, _⧺_}
 use Rattle.rules.specs.Edges.{stands, edgeAt}
 use Rattle.rules.specs.Calls.{fresh, silence}
 use Rattle.rules.proofs.ListLaws.{all-append}
 use Rattle.rules.proofs.Apart.{edge-end}
 use Rattle.rules.proofs.Joining.{fresh-join}
-use Rattle.rules.proofs.HandingOut.{fresh-most, rest-most}
 use Rattle.rules.proofs.PastEnd.{zeros-alike, edge-silence, rest-silence}
 use Rattle.rules.proofs.Answers.{standard-allowed}
 use Rattle.front.specs.Post.{Reads, valueOf}
@@ -56,10 +56,16 @@ module _ (T : Trace) (o : Progress) (recent : List ℕ) (base : ℕ) (flags valu
             ∙ ap (λ (l : List ℕ). getD l k 0) (take-append-add old values n);
       }
 
-  room : (n : ℕ) → n ≤ length flags → 18 * length (fresh standard T (upTo flags values n)) ≤ length b₀
+  room : (n : ℕ) → n ≤ length flags → recordSize * length (fresh standard T (upTo flags values n)) ≤ length b₀
   room n h =
-      let e = length-take-le n flags h in
-      omega (arith, fresh-most standard T (upTo flags values n), e, g .room)
+      let A = upTo flags values n in
+      let B : Trace = record { flags = drop n flags; values = drop n values } in
+      let f = take-append-drop n flags in
+      let v = take-append-drop n values in
+      let z : A ⧺ B ≡ lent flags values = λ i. record { flags = f i; values = v i } in
+      let a : length (take n flags) ≡ length (take n values) = omega (arith, length-take-le n flags h, length-take-le n values (omega (arith, g .alike-piece))) in
+      let e = ap length (sym (ap (fresh standard T) z) ∙ fresh-join standard standard-allowed T A B (g .alike) a) in
+      omega (arith, e, length-append (fresh standard T A) (fresh standard (T ⧺ A) B), g .room)
 
   pub enters-piece : Enters T o recent base flags values b₀
   enters-piece =
@@ -127,7 +133,7 @@ module _ (T : Trace) (o : Progress) (recent : List ℕ) (base : ℕ) (b₀ : Lis
       }
 
   -- what n zeros hand out is a beginning of what is left
-  room-silence : (n : ℕ) → n ≤ 448 → 18 * length (fresh standard T (silence n)) ≤ length b₀
+  room-silence : (n : ℕ) → n ≤ 448 → recordSize * length (fresh standard T (silence n)) ≤ length b₀
   room-silence n h =
       let k = 448 - n in
       let z : n + k ≡ 448 = omega arith in
@@ -136,7 +142,7 @@ module _ (T : Trace) (o : Progress) (recent : List ℕ) (base : ℕ) (b₀ : Lis
       let w = ap (fresh standard T) (silence-more n k ∙ ap silence z) in
       let f = rest-silence standard standard-allowed T 448 (omega arith) in
       let q = ap length (sym e ∙ w ∙ f) in
-      omega (arith, q, length-append (fresh standard T (silence n)) (fresh standard (T ⧺ silence n) (silence k)), rest-most standard standard-allowed T, g .room)
+      omega (arith, q, length-append (fresh standard T (silence n)) (fresh standard (T ⧺ silence n) (silence k)), g .room)
 
   enters-silence : Enters T o recent base (replicate 448 0) (replicate 448 0) b₀
   enters-silence =
@@ -149,7 +155,7 @@ module _ (T : Trace) (o : Progress) (recent : List ℕ) (base : ℕ) (b₀ : Lis
         alike-piece = refl;
         bounded = λ n h. subst (λ (R : Trace). Bounded (T ⧺ R)) (sym (zeros-up-to n 448 (most n h))) (bounded-silence n);
         reads = λ n h. subst (λ (R : Trace). Reads (T ⧺ R) (base + n) recent base (replicate 448 0)) (sym (zeros-up-to n 448 (most n h))) (reads-silence n (most n h));
-        room = λ n h. subst (λ (R : Trace). 18 * length (fresh standard T R) ≤ length b₀) (sym (zeros-up-to n 448 (most n h))) (room-silence n (most n h));
+        room = λ n h. subst (λ (R : Trace). recordSize * length (fresh standard T R) ≤ length b₀) (sym (zeros-up-to n 448 (most n h))) (room-silence n (most n h));
       }
     where
       most : (n : ℕ) → n ≤ length (replicate {A = ℕ} 448 0) → n ≤ 448

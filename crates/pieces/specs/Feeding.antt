@@ -1,11 +1,13 @@
 -- What the functions of a piece answer, for the trace that their words and values belong to.
-use Prim.Native.Nat.{ℕ, _+_, _-_, _≤_, _<_}
+use Prim.Native.Nat.{ℕ, _+_, _-_, _*_, _≤_, _<_}
 use mathlib.Core.List.{List}
 use mathlib.Core.Path.{_≡_}
 use lib.ListN.{length}
+use Rattle.rules.specs.Settings.{standard}
 use Rattle.rules.specs.Lists.{All}
-use Rattle.rules.specs.Samples.{Trace, sweepLimit}
-use Rattle.rules.specs.Calls.{silence, takeRoom, closeRoom}
+use Rattle.rules.specs.Samples.{Trace, lent, sweepLimit}
+use Rattle.rules.specs.Records.{recordSize}
+use Rattle.rules.specs.Calls.{fresh, rest, silence}
 use Rattle.places.specs.Places.{machineOf}
 use Rattle.processor.specs.declared.Progress.{Progress}
 use Rattle.front.specs.Words.{frontOf, recentOf}
@@ -14,7 +16,7 @@ use Rattle.processor.specs.Arrays.{machineAt}
 
 -- ---- a piece
 
--- o is where a piece of flags and values begins, behind the trace T; the buffer b₀ has the room that document 01 asks for
+-- o is where a piece of flags and values begins, behind the trace T; the buffer b₀ has room for the records that the piece lets out
 pub record Begins (T : Trace) (o : Progress) (recent : List ℕ) (base : ℕ) (flags values b₀ : List ℕ) : Type 0 where
   pub front : o .front ≡ frontOf (T .flags)
   pub machine : machineAt o ≡ machineOf (stateAt T (length (T .flags) - 178))
@@ -26,17 +28,17 @@ pub record Begins (T : Trace) (o : Progress) (recent : List ℕ) (base : ℕ) (f
   pub bytes : All (λ v. v ≤ 255) (T .values)
   pub bytes-piece : All (λ v. v ≤ 255) values
   pub limit : base + length flags ≤ sweepLimit
-  pub room : takeRoom (length flags) ≤ length b₀
+  pub room : recordSize * length (fresh standard T (lent flags values)) ≤ length b₀
 
 -- one that would pass the limit of a sweep is not fed
 pub record FeedPost (o : Progress) (recent : List ℕ) (base : ℕ) (flags values b : List ℕ) (y : Progress) (b′ : List ℕ) : Type 0 where
   pub same : length b′ ≡ length b
   pub past : sweepLimit < base + length flags → (y ≡ o) × (b′ ≡ b)
-  pub result : (T : Trace) → Begins T o recent base flags values b → Fed T (record { flags = flags; values = values }) b y b′
+  pub result : (T : Trace) → Begins T o recent base flags values b → Fed T (lent flags values) b y b′
 
 -- ---- the ticks past the end
 
--- o is where the trace T ends; the buffer b₀ has the room that document 01 asks of a close
+-- o is where the trace T ends; the buffer b₀ has room for the records that are left
 pub record Ends (T : Trace) (o : Progress) (recent : List ℕ) (base : ℕ) (b₀ : List ℕ) : Type 0 where
   pub front : o .front ≡ frontOf (T .flags)
   pub machine : machineAt o ≡ machineOf (stateAt T (length (T .flags) - 178))
@@ -46,7 +48,7 @@ pub record Ends (T : Trace) (o : Progress) (recent : List ℕ) (base : ℕ) (b�
   pub alike : length (T .flags) ≡ length (T .values)
   pub bytes : All (λ v. v ≤ 255) (T .values)
   pub limit : base ≤ sweepLimit
-  pub room : closeRoom ≤ length b₀
+  pub room : recordSize * length (rest standard T) ≤ length b₀
 
 -- 448 zeros complete every reply
 pub record DrainPost (o : Progress) (recent : List ℕ) (base : ℕ) (b : List ℕ) (y : Progress) (b′ : List ℕ) : Type 0 where

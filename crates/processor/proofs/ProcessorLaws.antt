@@ -1,12 +1,12 @@
 -- A processor with no tick taken; what the processor of a trace holds.
-use Prim.Native.Nat.{ℕ}
 use native.Mathlib.Omega.{arith}
 use mathlib.Core.Path.{_≡_, refl, sym, ap, _∙_}
 use mathlib.Core.List.{List, [], _∷_}
 use lib.ListN.{length, replicate}
 use Rattle.rules.specs.declared.Place.{Place}
 use Rattle.rules.specs.declared.Counts.{Counts}
-use Rattle.rules.specs.Samples.{Trace}
+use Rattle.rules.specs.declared.Opening.{Opening}
+use Rattle.rules.specs.Samples.{Trace, nothing}
 use Rattle.rules.specs.Machine.{start, after}
 use Rattle.places.specs.Places.{idle}
 use Rattle.marking.specs.Marks.{four}
@@ -25,26 +25,19 @@ all-listed (w ∷ x ∷ []) s = absurd (omega arith)
 all-listed (w ∷ x ∷ y ∷ []) s = absurd (omega arith)
 all-listed (w ∷ x ∷ y ∷ z ∷ t ∷ l) s = absurd (omega arith)
 
-abbrev nothing : Trace
-nothing = record { flags = []; values = [] }
-
-pub begun-law : (f : Front) (l : List Place) (c : Counts) → f ≡ frontOf [] → l ≡ replicate 4 idle → c ≡ start .counts → (mode azimuth : ℕ)
-    → record { mode = mode; azimuth = azimuth; taken = 0; front = f; recent = replicate 256 0; places = l; counts = c } ≡ runningProcessor mode azimuth nothing
+pub begun-law : (f : Front) (l : List Place) (c : Counts) → f ≡ frontOf [] → l ≡ replicate 4 idle → c ≡ start .counts → (ω : Opening)
+    → record { opening = ω; taken = 0; front = f; recent = replicate 256 0; places = l; counts = c } ≡ runningProcessor ω nothing
 unfolding runningProcessor recentOf after
-begun-law f l c ef el ec mode azimuth = λ i. record { mode = mode; azimuth = azimuth; taken = 0; front = ef i; recent = replicate 256 0; places = el i; counts = ec i }
+begun-law f l c ef el ec ω = λ i. record { opening = ω; taken = 0; front = ef i; recent = replicate 256 0; places = el i; counts = ec i }
 
-pub idle-law : (p : Processor) → p ≡ runningProcessor 0 0 nothing → p ≡ idleProcessor
+pub idle-law : (p : Processor) → p ≡ runningProcessor (record { mode = 0; azimuth = 0 }) nothing → p ≡ idleProcessor
 unfolding idleProcessor
 idle-law p e = e
 
-module _ (mode azimuth : ℕ) (T : Trace) (p : Processor) (e : p ≡ runningProcessor mode azimuth T) where
-  pub mode-of : p .mode ≡ mode
+module _ (ω : Opening) (T : Trace) (p : Processor) (e : p ≡ runningProcessor ω T) where
+  pub opening-of : p .opening ≡ ω
   unfolding runningProcessor
-  mode-of = ap (λ (q : Processor). q .mode) e
-
-  pub azimuth-of : p .azimuth ≡ azimuth
-  unfolding runningProcessor
-  azimuth-of = ap (λ (q : Processor). q .azimuth) e
+  opening-of = ap (λ (q : Processor). q .opening) e
 
   pub taken-of : p .taken ≡ length (T .flags)
   unfolding runningProcessor

@@ -26,4 +26,4 @@ progressOf p = record { front = p .front; places = p .places; counts = p .counts
 
 -- the processor that p has become after n ticks
 abbrev pub processorAt : Processor → Progress → List ℕ → ℕ → Processor
-processorAt p y recent n = record { mode = p .mode; azimuth = p .azimuth; taken = n; front = y .front; recent = recent; places = listed (four (y .places)); counts = y .counts }
+processorAt p y recent n = record { opening = p .opening; taken = n; front = y .front; recent = recent; places = listed (four (y .places)); counts = y .counts }

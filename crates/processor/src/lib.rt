@@ -1,8 +1,8 @@
 // The processor between calls, and a piece on its way through it.
 ghost use mathlib.Core.Path.{_≡_};
-ghost use mathlib.Core.List.{[]};
 ghost use lib.ListN.{length};
 ghost use Rattle.marking.specs.Marks.{four};
+ghost use Rattle.rules.specs.Samples.{nothing};
 ghost use Rattle.processor.specs.State.{idleProcessor, runningProcessor};
 ghost use Rattle.processor.specs.Arrays.{listed, progressOf, processorAt};
 use front::words::Front;
@@ -10,13 +10,13 @@ use front::words::no_front;
 use places::no_counts;
 use places::no_places;
 use rules::Counts;
+use rules::Opening;
 use rules::Place;
 
-// Mode 0: no sweep is open. `recent` holds the values of the last 256 ticks, the newest last. The open replies stand in the four places in order of F1, then
+// With mode 0 no sweep is open. `recent` holds the values of the last 256 ticks, the newest last. The open replies stand in the four places in order of F1, then
 // come the idle places.
 pub struct Processor {
-    pub mode: u8,
-    pub azimuth: u16,
+    pub opening: Opening,
     pub taken: u32,
     pub front: Front,
     pub recent: [u8; 256],
@@ -25,12 +25,11 @@ pub struct Processor {
 }
 
 // The processor of a sweep with no tick taken.
-pub fn begun(mode: u8, azimuth: u16) -> Processor
-    ensures { λ r. ⌜ r ≡ runningProcessor mode azimuth (record { flags = []; values = [] }) ⌝ }
+pub fn begun(opening: Opening) -> Processor
+    ensures { λ r. ⌜ r ≡ runningProcessor opening nothing ⌝ }
 {
     Processor {
-        mode,
-        azimuth,
+        opening,
         taken: 0,
         front: no_front(),
         recent: [0u8; 256],
@@ -43,7 +42,10 @@ pub fn begun(mode: u8, azimuth: u16) -> Processor
 pub fn idle() -> Processor
     ensures { λ r. ⌜ r ≡ idleProcessor ⌝ }
 {
-    begun(0, 0)
+    begun(Opening {
+        mode: 0,
+        azimuth: 0,
+    })
 }
 
 // How far a piece has come: the words, the four places and the counts so far, and the place in the buffer behind the last record.
@@ -82,12 +84,12 @@ pub fn progress_of(p: Processor) -> Progress
 pub fn moved(p: Processor, y: Progress, recent: [u8; 256], taken: u32) -> Processor
     ensures { λ r. ⌜ r ≡ processorAt p y recent taken ⌝ }
 {
+    let opening = p.opening;
     let front = y.front;
     let places = y.places;
     let counts = y.counts;
     Processor {
-        mode: p.mode,
-        azimuth: p.azimuth,
+        opening,
         taken,
         front,
         recent,

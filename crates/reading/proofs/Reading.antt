@@ -87,13 +87,13 @@ module _ (l f v : List ℕ) (w : wellFormed l ≡ true) (h : Formed l) where
   read-open-10 k n = post l f v (refused 10) (first k ∙ rw (ne-eqb (length (behind l m)) 3 (λ e. n (omega (arith, e, size, even)))))
 
   pub read-open : byte l 0 ≡ 1 → m ≡ 8 → (mode high low : ℕ) → mode ≡ byte l 2 → high ≡ byte l 4 → low ≡ byte l 6
-      → ReadPost l f v (Framed (Open mode (256 * high + low))) f v
+      → ReadPost l f v (Framed (Open (record { mode = mode; azimuth = 256 * high + low }))) f v
   read-open k n mode high low a b c =
-      post l f v (opening mode (256 * high + low))
+      post l f v (opening (record { mode = mode; azimuth = 256 * high + low }))
       (first k
-      ∙ ap (λ t. cond t (opening (getD (behind l m) 0 0) (256 * getD (behind l m) 1 0 + getD (behind l m) 2 0)) (refused 10))
+      ∙ ap (λ t. cond t (opening (record { mode = getD (behind l m) 0 0; azimuth = 256 * getD (behind l m) 1 0 + getD (behind l m) 2 0 })) (refused 10))
       (eq-eqb (length (behind l m)) 3 (omega (arith, size, even, n)))
-      ∙ ap₂ opening (behind-at l m 0 (omega arith) (omega (arith, n)) ∙ sym a)
+      ∙ ap₂ (λ (x y : ℕ). opening (record { mode = x; azimuth = y })) (behind-at l m 0 (omega arith) (omega (arith, n)) ∙ sym a)
       (ap₂ (λ (x y : ℕ). 256 * x + y) (behind-at l m 1 (omega arith) (omega (arith, n)) ∙ sym b) (behind-at l m 2 (omega arith) (omega (arith, n)) ∙ sym c)))
 
   -- ---- samples

@@ -7,6 +7,7 @@ use mathlib.Core.List.{List, [], _∷_, _++_}
 use lib.Dec.{ltb}
 use lib.ListN.{length, getD, take, length-append}
 use borrow.Author.Tests.{lt-ltb, le-leb, lt-leb, eq-eqb, ltb-true, ltb-false}
+use Rattle.rules.specs.declared.Opening.{Opening}
 use Rattle.rules.specs.Lists.{All}
 use Rattle.reading.specs.Frames.{opening, samples, closing, refused, bytes, digits, wellFormed, flagsIn, valuesIn, frame, reading}
 use Rattle.characters.specs.Characters.{digit, areDigits}
@@ -94,10 +95,10 @@ module _ (l : List ℕ) (b : Bytes l) (some : 1 ≤ length l) (most : length l �
 
 -- ---- the three calls
 
-pub open-back : (mode azimuth : ℕ) → mode ≤ 255 → azimuth < 65536 → reading (openLine mode azimuth) ≡ opening mode azimuth
-open-back mode azimuth m a =
-    reads-back (1 ∷ mode ∷ azimuth / 256 ∷ azimuth % 256 ∷ []) (omega arith, (m, (omega (arith, a), (omega arith, tt)))) (omega arith) (omega arith)
-    ∙ ap (opening mode) (omega arith)
+pub open-back : (ω : Opening) → ω .mode ≤ 255 → ω .azimuth < 65536 → reading (openLine ω) ≡ opening ω
+open-back ω m a =
+    reads-back (1 ∷ ω .mode ∷ ω .azimuth / 256 ∷ ω .azimuth % 256 ∷ []) (omega arith, (m, (omega (arith, a), (omega arith, tt)))) (omega arith) (omega arith)
+    ∙ ap (λ (a : ℕ). opening (record { mode = ω .mode; azimuth = a })) (omega arith)
 
 pub close-back : reading closeLine ≡ closing
 close-back = reads-back (3 ∷ []) (omega arith, tt) (omega arith) (omega arith)

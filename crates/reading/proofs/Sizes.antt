@@ -24,7 +24,7 @@ pub record Samples (P : Trace) : Type 0 where
   pub bytes : All (λ v. v ≤ 255) (P .values)
 
 abbrev pub Sized : Reading → Type 0
-Sized (opening mode azimuth) = Unit {0}
+Sized (opening ω) = Unit {0}
 Sized (samples P) = Samples P
 Sized closing = Unit {0}
 Sized (refused k) = Unit {0}
@@ -70,7 +70,7 @@ sized-frame : (d : List ℕ) → length d ≤ 129 → All Byte d → Sized (fram
 sized-frame [] n h = tt
 sized-frame (kind ∷ l) n h =
     sized-cond (eqb kind 1) (openingOf l) (cond (eqb kind 2) (samplesOf l) (cond (eqb kind 3) (closingOf l) (refused 10)))
-    (sized-cond (eqb (length l) 3) (opening (getD l 0 0) (256 * getD l 1 0 + getD l 2 0)) (refused 10) tt tt)
+    (sized-cond (eqb (length l) 3) (opening (record { mode = getD l 0 0; azimuth = 256 * getD l 1 0 + getD l 2 0 })) (refused 10) tt tt)
     (sized-cond (eqb kind 2) (samplesOf l) (cond (eqb kind 3) (closingOf l) (refused 10))
     (sized-cond (leb 2 (length l) && eqb (length l % 2) 0) (samples (record { flags = flagsIn l; values = valuesIn l })) (refused 10)
     (record { most = omega (arith, pairs-half l); alike = pairs-alike l; bytes = values-bytes l (h .1) }) tt)

@@ -4,6 +4,7 @@ use mathlib.Core.Bool.{Bool, cond, _&&_}
 use mathlib.Core.List.{List, [], _∷_}
 use lib.Dec.{leb, eqb}
 use lib.ListN.{length, getD, take}
+use Rattle.rules.specs.declared.Opening.{Opening}
 use Rattle.rules.specs.Samples.{Trace}
 use Rattle.characters.specs.Characters.{digit, areDigits}
 
@@ -30,7 +31,7 @@ wellFormed l = leb 2 (length l) && (leb (length l) 259 && (eqb (length l % 2) 1 
 -- ---- what it says
 
 pub data Reading : Type 0 where
-  opening : (mode azimuth : ℕ) → Reading
+  opening : Opening → Reading
   samples : Trace → Reading
   closing : Reading
   refused : ℕ → Reading
@@ -48,7 +49,7 @@ valuesIn (f ∷ v ∷ l) = v ∷ valuesIn l
 
 -- "`01` mode (1 byte) azimuth (2); `02` with 1 to 64 flag, value pairs; `03` close." (258 digits have no more than 64 pairs.)
 abbrev pub openingOf : List ℕ → Reading
-openingOf l = cond (eqb (length l) 3) (opening (getD l 0 0) (256 * getD l 1 0 + getD l 2 0)) (refused 10)
+openingOf l = cond (eqb (length l) 3) (opening (record { mode = getD l 0 0; azimuth = 256 * getD l 1 0 + getD l 2 0 })) (refused 10)
 
 abbrev pub samplesOf : List ℕ → Reading
 samplesOf l = cond (leb 2 (length l) && eqb (length l % 2) 0) (samples (record { flags = flagsIn l; values = valuesIn l })) (refused 10)

@@ -13,19 +13,19 @@ use Rattle.characters.specs.Characters.{digit, areDigits}
 
 -- document 01's values for each case
 abbrev pub lineOf : Reading → Line
-lineOf (opening mode azimuth) = Framed (Open mode azimuth)
+lineOf (opening ω) = Framed (Open ω)
 lineOf (samples P) = Framed (Samples (length (P .flags)))
 lineOf closing = Framed Close
 lineOf (refused k) = Refused k
 
 abbrev pub flagsAfter : Reading → List ℕ → List ℕ
-flagsAfter (opening mode azimuth) b = b
+flagsAfter (opening ω) b = b
 flagsAfter (samples P) b = over (P .flags) b
 flagsAfter closing b = b
 flagsAfter (refused k) b = b
 
 abbrev pub valuesAfter : Reading → List ℕ → List ℕ
-valuesAfter (opening mode azimuth) b = b
+valuesAfter (opening ω) b = b
 valuesAfter (samples P) b = over (P .values) b
 valuesAfter closing b = b
 valuesAfter (refused k) b = b

@@ -6,11 +6,12 @@ ghost use Rattle.reading.specs.Frames.{wellFormed};
 ghost use Rattle.reading.specs.Post.{ReadPost};
 use characters::are_digits;
 use characters::byte_at;
+use rules::Opening;
 use samples::fill;
 
-// Open with mode and azimuth, so many samples, or close.
+// Open, so many samples, or close.
 pub enum Frame {
-    Open(u8, u16),
+    Open(Opening),
     Samples(usize),
     Close,
 }
@@ -56,7 +57,10 @@ pub fn read(line: &[u8], flags: &mut [u8; 64], values: &mut [u8; 64]) -> Line
         }
         let high = byte_at(line, 4) as u16;
         let low = byte_at(line, 6) as u16;
-        return Line::Frame(Frame::Open(byte_at(line, 2), 256 * high + low));
+        return Line::Frame(Frame::Open(Opening {
+            mode: byte_at(line, 2),
+            azimuth: 256 * high + low,
+        }));
     }
     if kind == 2 {
         if m % 4 != 2 {

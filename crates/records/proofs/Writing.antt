@@ -7,7 +7,7 @@ use lib.ListN.{length}
 use lib.Ieee.{binary64, toBits}
 use Rattle.rules.specs.declared.Reply.{Reply}
 use Rattle.rules.specs.Replies.{level}
-use Rattle.rules.specs.Records.{bytes, rangeOf, flagsOf, confidence, recordOf}
+use Rattle.rules.specs.Records.{bytes, rangeOf, flagsOf, confidence, recordOf, recordSize}
 use Rattle.rules.specs.Buffers.{over-at}
 use Rattle.rules.proofs.Buffers.{over-at-next}
 
@@ -36,7 +36,7 @@ module _ (r : Reply) (range code sure flags sum bits : ℕ) where
       (ap (λ (l : List ℕ). l ++ bytes 2 (r .word .code) ++ bytes 2 (confidence (r .word .unsure)) ++ bytes 1 (flagsOf (r .marks) (r .reference .estimate)) ++ bytes 1 (r .reference .n) ++ bytes 2 (r .reference .s) ++ bytes 8 (toBits binary64 (level (r .reference .estimate))))
       (ap (bytes 2) (h .range-is) ∙ two-bytes (rangeOf (r .f1) .0)))
 
-  pub written : Fields → (at : ℕ) (b : List ℕ) → at + 18 ≤ length b → (b₁ b₂ b₃ b₄ b₅ b₆ b₇ : List ℕ)
+  pub written : Fields → (at : ℕ) (b : List ℕ) → at + recordSize ≤ length b → (b₁ b₂ b₃ b₄ b₅ b₆ b₇ : List ℕ)
       → b₁ ≡ over-at (bytes 2 range) at b → b₂ ≡ over-at (bytes 2 code) (at + 2) b₁ → b₃ ≡ over-at (bytes 2 sure) (at + 4) b₂
       → b₄ ≡ over-at (bytes 1 flags) (at + 6) b₃ → b₅ ≡ over-at (bytes 1 (r .reference .n)) (at + 7) b₄ → b₆ ≡ over-at (bytes 2 sum) (at + 8) b₅
       → b₇ ≡ over-at (bytes 8 bits) (at + 10) b₆ → b₇ ≡ over-at (recordOf r) at b

@@ -2,7 +2,7 @@
 ghost use mathlib.Core.Path.{_≡_};
 ghost use Prim.Native.Nat.{_+_, _≤_};
 ghost use lib.ListN.{length};
-ghost use Rattle.rules.specs.Records.{recordOf};
+ghost use Rattle.rules.specs.Records.{recordOf, recordSize};
 ghost use Rattle.rules.specs.Buffers.{over-at};
 use fields::bits_of;
 use fields::confidence_of;
@@ -22,7 +22,7 @@ fn wide(x: u16) -> u32
 
 // The record of the reply, from place at on.
 pub fn write_record(out: &mut [u8], at: usize, r: Reply)
-    requires { ⌜ at + 18 ≤ length (now out) ⌝ }
+    requires { ⌜ at + recordSize ≤ length (now out) ⌝ }
     ensures { λ _. ⌜ now (out .exit) ≡ over-at (recordOf r) at (now (out .entry)) ⌝ }
 {
     let q = r.f1;

@@ -5,7 +5,7 @@ use mathlib.Core.Path.{_≡_, refl, sym}
 use Rattle.rules.specs.Calls.{Answer, accepted, refused}
 use Rattle.refusals.specs.Numbers.{answerNumbered}
 
-pub turned-down : (n : ℕ) (v : Answer) → answerNumbered n ≡ v → (n ≡ 0 → ⊥) → v ≡ refused n
+pub turned-down : (n : ℕ) (v : Answer) → answerNumbered n ≡ v → (n ≡ 0 → ⊥) → v ≡ refused (record { number = n })
 turned-down zero v e h = absurd (h refl)
 turned-down (suc n) v e h = sym e
 

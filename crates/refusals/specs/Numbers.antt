@@ -4,4 +4,4 @@ use Rattle.rules.specs.Calls.{Answer, accepted, refused}
 
 abbrev pub answerNumbered : ℕ → Answer
 answerNumbered zero = accepted
-answerNumbered (suc k) = refused (suc k)
+answerNumbered (suc k) = refused (record { number = suc k })

@@ -2,39 +2,43 @@
 // Asks nothing of its caller.
 ghost use mathlib.Core.Path.{_≡_};
 ghost use lib.Dec.{ltb};
+ghost use Rattle.rules.specs.Samples.{lent};
 ghost use Rattle.rules.specs.Calls.{openAnswer, takeAnswer, closeAnswer, takeRoom};
 ghost use Rattle.refusals.specs.Numbers.{answerNumbered};
 use flags::has_bad;
+use rules::CLOSE_ROOM;
+use rules::Opening;
+use rules::RECORD;
 
 pub mod whole;
 
 // Open. 1: mode not 1 to 3. 2: azimuth above 16,383.
-pub fn open_refusal(mode: u8, azimuth: u16) -> u8
-    ensures { λ r. ⌜ answerNumbered r ≡ openAnswer mode azimuth ⌝ }
+pub fn open_refusal(opening: Opening) -> u8
+    ensures { λ r. ⌜ answerNumbered r ≡ openAnswer opening ⌝ }
 {
-    if mode < 1 {
+    if opening.mode < 1 {
         return 1;
     }
-    if 3 < mode {
+    if 3 < opening.mode {
         return 1;
     }
-    if 16383 < azimuth {
+    if 16383 < opening.azimuth {
         return 2;
     }
     0
 }
 
-// The bytes that a reply buffer must have for n ticks: 72 x ceil(n/206).
+// The bytes that a reply buffer must have for n ticks: 4 replies in each 206 ticks.
 fn room_for(n: u16) -> usize
     ensures { λ r. ⌜ r ≡ takeRoom n ⌝ }
 {
-    72 * ((n as usize + 205) / 206)
+    RECORD * (4 * ((n as usize + 205) / 206))
 }
 
 // Take, where `taken` ticks were taken, with a reply buffer of `room` bytes. 3: no sweep open. 4: flag and value slices differ in length.
 // 5: piece over 4,096. 6: sweep would pass 32,768. 7: reply buffer under 72 x ceil(n/206) bytes. 8: a bad flag byte.
 pub fn take_refusal(mode: u8, taken: u32, flags: &[u8], values: &[u8], room: usize) -> u8
-    ensures { λ r. ⌜ answerNumbered r ≡ takeAnswer (ltb 0 mode) taken (now (flags .entry)) (now (values .entry)) room ⌝ }
+    ensures { λ r. ⌜ answerNumbered r ≡ takeAnswer (ltb 0 mode) taken (lent (now (flags .entry)) (now (values .entry))) room ⌝ }
 {
     let n = flags.len();
     if mode == 0 {
@@ -65,7 +69,7 @@ pub fn close_refusal(mode: u8, room: usize) -> u8
     if mode == 0 {
         return 3;
     }
-    if room < 144 {
+    if room < CLOSE_ROOM {
         return 7;
     }
     0

@@ -1,39 +1,40 @@
 // The same for a whole sweep in one call.
 ghost use Prim.Native.Nat.{_≤_};
 ghost use mathlib.Core.Path.{_≡_};
+ghost use lib.ListN.{length};
+ghost use Rattle.rules.specs.Samples.{lent};
 ghost use Rattle.refusals.specs.Numbers.{answerNumbered};
-ghost use Rattle.refusals.specs.Whole.{wholeRoom, wholeAnswerTo};
+ghost use Rattle.refusals.specs.Whole.{wholeRoom, wholeAnswer};
+use super::open_refusal;
 use flags::has_bad;
+use rules::CLOSE_ROOM;
+use rules::Opening;
+use rules::RECORD;
+use rules::TOTALS;
 
 // The bytes that the reply buffer of a whole sweep must have for n ticks.
 fn whole_room(n: usize) -> usize
     requires { ⌜ n ≤ 32768 ⌝ }
     ensures { λ r. ⌜ r ≡ wholeRoom n ⌝ }
 {
-    72 * ((n + 205) / 206) + 144
+    RECORD * (4 * ((n + 205) / 206)) + CLOSE_ROOM
 }
 
 // A whole sweep in one call. 1 and 2: as for open. 4: flag and value slices differ in length. 5: pieces of 0 or over 4,096. 6: over 32,768 ticks.
 // 7: `out` under 72 x ceil(n/206) + 144 bytes, or `totals` under 12. 8: a bad flag byte.
 pub fn whole_refusal(
-    mode: u8,
-    azimuth: u16,
+    opening: Opening,
     flags: &[u8],
     values: &[u8],
     piece: usize,
     out: &[u8],
     totals: &[u8],
 ) -> u8
-    ensures { λ r. ⌜ answerNumbered r ≡ wholeAnswerTo mode azimuth (now (flags .entry)) (now (values .entry)) piece (now (out .entry)) (now (totals .entry)) ⌝ }
+    ensures { λ r. ⌜ answerNumbered r ≡ wholeAnswer opening (lent (now (flags .entry)) (now (values .entry))) piece (length (now (out .entry))) (length (now (totals .entry))) ⌝ }
 {
-    if mode < 1 {
-        return 1;
-    }
-    if 3 < mode {
-        return 1;
-    }
-    if 16383 < azimuth {
-        return 2;
+    let number = open_refusal(opening);
+    if number != 0 {
+        return number;
     }
     let n = flags.len();
     if n != values.len() {
@@ -51,7 +52,7 @@ pub fn whole_refusal(
     if out.len() < whole_room(n) {
         return 7;
     }
-    if totals.len() < 12 {
+    if totals.len() < TOTALS {
         return 7;
     }
     if has_bad(flags) {

@@ -14,7 +14,7 @@ use Rattle.rules.specs.Settings.{Settings, Allowed}
 use Rattle.rules.specs.Samples.{Trace, A, P, N, M, odd}
 use Rattle.rules.specs.Edges.{Kind, noEdge, actual, lead, falls, age, trailWithin, kinds, since, ageAt, kindAt, Edge, stands, edgeAt}
 use Rattle.rules.specs.Sentences.{leadAt, highAfter, trailAt, Plain, bare}
-use Rattle.rules.specs.Machine.{State, bracketAt, edgeStep, retired, step, after, final}
+use Rattle.rules.specs.Machine.{Given, given, State, bracketAt, edgeStep, retired, step, after, final}
 use Rattle.rules.proofs.Truth.{impossible}
 use Rattle.rules.proofs.Locality.{kinds-at, from-length}
 use Rattle.rules.proofs.Runs.{since-suc, high-age, trail-falls, high-lead, Going, high-A, A-suc}
@@ -213,28 +213,34 @@ same-done f {x} {y} q e g a = rw (a .kind) (go (stands g) (a .pulse))
     go false h = q
 
 -- the machine asks for M and value only of edges that stand
-module _ (plus : ℕ → ℕ → ℕ) (set : Settings) (E G : ℕ → Edge) (alike : (t : ℕ) → Alike (E t) (G t)) where
+module _ (plus : ℕ → ℕ → ℕ) (set : Settings) (E E′ : ℕ → Edge) (alike : (t : ℕ) → Alike (E t) (E′ t)) where
+  abbrev G : Given
+  G = record { settings = set; edge = E }
+
+  abbrev G′ : Given
+  G′ = record { settings = set; edge = E′ }
+
   -- the same bracket stands at u
-  same-bracket : (u : ℕ) → bracketAt set E u ≡ bracketAt set G u
+  same-bracket : (u : ℕ) → bracketAt G u ≡ bracketAt G′ u
   unfolding bracketAt
   same-bracket u =
-      let last = same-done With {x = Without} {y = Without} refl (E (u + 169)) (G (u + 169)) (alike (u + 169)) in
-      let next = same-done With last (E (u + 167)) (G (u + 167)) (alike (u + 167)) in
-      same-done With (ap (cond (eqb (set .tolerance) 0) Without) next) (E (u + 168)) (G (u + 168)) (alike (u + 168))
+      let last = same-done With {x = Without} {y = Without} refl (E (u + 169)) (E′ (u + 169)) (alike (u + 169)) in
+      let next = same-done With last (E (u + 167)) (E′ (u + 167)) (alike (u + 167)) in
+      same-done With (ap (cond (eqb (set .tolerance) 0) Without) next) (E (u + 168)) (E′ (u + 168)) (alike (u + 168))
 
   -- a tick does the same to the state
-  same-step : (u : ℕ) (s : State) → step plus set E u s ≡ step plus set G u s
+  same-step : (u : ℕ) (s : State) → step plus G u s ≡ step plus G′ u s
   unfolding step
   same-step u s =
       let t = retired u s in
-      same-done (λ (p : Pulse). edgeStep plus set p (bracketAt set E u) t) {x = t} {y = t} refl (E u) (G u) (alike u)
-      ∙ ap (λ (b : Bracket). cond (stands (G u)) (edgeStep plus set (G u .pulse) b t) t) (same-bracket u)
+      same-done (λ (p : Pulse). edgeStep plus set p (bracketAt G u) t) {x = t} {y = t} refl (E u) (E′ u) (alike u)
+      ∙ ap (λ (b : Bracket). cond (stands (E′ u)) (edgeStep plus set (E′ u .pulse) b t) t) (same-bracket u)
 
   -- the state after n ticks is the same
-  same-after : (n : ℕ) → after plus set E n ≡ after plus set G n
+  same-after : (n : ℕ) → after plus G n ≡ after plus G′ n
   unfolding after
   same-after zero = refl
-  same-after (suc n) = ap (step plus set E n) (same-after n) ∙ same-step n (after plus set G n)
+  same-after (suc n) = ap (step plus G n) (same-after n) ∙ same-step n (after plus G′ n)
 
 -- a trace without P, N and M on the ticks that lack A
 abbrev pub bared : Trace → Trace
@@ -259,5 +265,5 @@ module _ (set : Settings) (ok : Allowed set) (two : 2 ≤ set .shortest) where
   pub bare-final : (T : Trace) → final set (bared T) ≡ final set T
   unfolding final
   bare-final T =
-      ap (after _+_ set (edgeAt set (bared T))) (length-map (T .flags) bare)
+      ap (after _+_ (given set (bared T))) (length-map (T .flags) bare)
       ∙ same-after _+_ set (edgeAt set (bared T)) (edgeAt set T) (bare-alike T) (length (T .flags))

@@ -12,9 +12,9 @@ use Rattle.rules.specs.declared.Fate.{Fate}
 use Rattle.rules.specs.declared.Fate.the-variants.{Sidelobe, Garbled, Lost, Opens}
 use Rattle.rules.specs.Settings.{Settings}
 use Rattle.rules.specs.Lists.{any, filter, reject, All}
-use Rattle.rules.specs.Edges.{Edge, stands}
+use Rattle.rules.specs.Edges.{stands}
 use Rattle.rules.specs.Replies.{ended, isPhantom, speaks, hear}
-use Rattle.rules.specs.Machine.{State, retired, bracketAt, fate, opened, liveAfter, bracket, dealFrom, deal, edgeStep, step, after}
+use Rattle.rules.specs.Machine.{Given, State, retired, bracketAt, fate, opened, liveAfter, bracket, dealFrom, deal, edgeStep, step, after}
 use Rattle.rules.specs.Records.{replies}
 use Rattle.rules.proofs.ListLaws.{all-filter, all-reject, all-append}
 
@@ -58,25 +58,25 @@ module _ (P : Reply → Type 0) where
     each-deal e keeps before [] h = tt
     each-deal e keeps before (r ∷ l) h = (keeps (any (speaks set e) (before ++ l)) r (h .0), each-deal e keeps (before ++ (r ∷ [])) l (h .1))
 
-    module _ (E : ℕ → Edge) (keeps : (u : ℕ) (other : Bool) (r : Reply) → P r → P (hear _+_ set (E u .pulse) other r))
-        (begins : (u : ℕ) → stands (E u) ≡ true → (f : Pulse) → bracketAt set E u ≡ With f → (ks : List Reply) → fate (E u .pulse) f ks ≡ Opens → P (opened (E u .pulse) f ks)) where
-      each-step : (u : ℕ) (s : State) → Each P s → Each P (step _+_ set E u s)
-      unfolding step edgeStep deal
-      each-step u s h = go (stands (E u)) refl
-        where
-          t : State
-          t = retired u s
+  module _ (G : Given) (keeps : (u : ℕ) (other : Bool) (r : Reply) → P r → P (hear _+_ (G .settings) (G .edge u .pulse) other r))
+      (begins : (u : ℕ) → stands (G .edge u) ≡ true → (f : Pulse) → bracketAt G u ≡ With f → (ks : List Reply) → fate (G .edge u .pulse) f ks ≡ Opens → P (opened (G .edge u .pulse) f ks)) where
+    each-step : (u : ℕ) (s : State) → Each P s → Each P (step _+_ G u s)
+    unfolding step edgeStep deal
+    each-step u s h = go (stands (G .edge u)) refl
+      where
+        t : State
+        t = retired u s
 
-          e : Pulse
-          e = E u .pulse
+        e : Pulse
+        e = G .edge u .pulse
 
-          go : (b : Bool) → stands (E u) ≡ b → Each P (cond b (deal _+_ set e (bracket _+_ e (bracketAt set E u) t)) t)
-          go true q =
-              let k = each-bracket e (bracketAt set E u) (begins u q) t (each-retired u s h) in
-              record { done = k .done; live = each-deal e (keeps u) [] (bracket _+_ e (bracketAt set E u) t .live) (k .live) }
-          go false q = each-retired u s h
+        go : (b : Bool) → stands (G .edge u) ≡ b → Each P (cond b (deal _+_ (G .settings) e (bracket _+_ e (bracketAt G u) t)) t)
+        go true q =
+            let k = each-bracket e (bracketAt G u) (begins u q) t (each-retired u s h) in
+            record { done = k .done; live = each-deal (G .settings) e (keeps u) [] (bracket _+_ e (bracketAt G u) t .live) (k .live) }
+        go false q = each-retired u s h
 
-      pub each : (n : ℕ) → Each P (after _+_ set E n)
-      unfolding after
-      each zero = record { done = tt; live = tt }
-      each (suc n) = each-step n (after _+_ set E n) (each n)
+    pub each : (n : ℕ) → Each P (after _+_ G n)
+    unfolding after
+    each zero = record { done = tt; live = tt }
+    each (suc n) = each-step n (after _+_ G n) (each n)

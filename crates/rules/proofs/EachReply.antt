@@ -1,55 +1,101 @@
 -- What holds of every reply of a trace: its numbers are in range, its F1 is early enough for an F2, and where F2 is its reference F2 has M.
 -- Each is a property that a reply has when it opens and that settling keeps.
-use Prim.Native.Nat.{ℕ, zero, suc, _+_, _≤_}
+use Prim.Native.Nat.{ℕ, zero, suc, _+_, _-_, _*_, _^_, _≤_}
 use native.Mathlib.Omega.{arith}
-use mathlib.Core.Path.{_≡_, refl, sym, subst}
+use mathlib.Core.Path.{_≡_, refl, sym, ap, _∙_, subst}
 use mathlib.Core.Bool.{Bool, true, false, not, _&&_, _||_, cond}
 use mathlib.Core.List.{List, [], _∷_}
 use lib.Dec.{leb, eqb}
 use lib.ListN.{length, getD}
 use Rattle.rules.specs.declared.Tick.{Tick}
+use Rattle.rules.specs.declared.Estimate.{Estimate}
+use Rattle.rules.specs.declared.Marks.{Marks}
 use Rattle.rules.specs.declared.Reply.{Reply}
 use Rattle.rules.specs.declared.Pulse.{Pulse}
 use Rattle.rules.specs.declared.Bracket.the-variants.{Without, With}
 use Rattle.rules.specs.declared.Fate.the-variants.{Opens}
 use Rattle.rules.specs.Settings.{Settings, Allowed}
 use Rattle.rules.specs.Lists.{any, All}
-use Rattle.rules.specs.Samples.{Trace}
-use Rattle.rules.specs.Edges.{Edge, stands, edgeAt}
-use Rattle.rules.specs.Replies.{f1, position, takes, verdict, agrees, heardAt, covers, hear}
-use Rattle.rules.specs.Machine.{bracketAt, fateBy, clear, fate, opened, openedBy, after, final}
-use Rattle.rules.specs.Records.{replies}
-use Rattle.rules.specs.Ranges.{Ranged, InRange}
+use Rattle.rules.specs.Samples.{Trace, bit}
+use Rattle.rules.specs.Edges.{stands, edgeAt}
+use Rattle.rules.specs.Replies.{f1, level, position, takes, verdict, agrees, heardAt, covers, hear}
+use Rattle.rules.specs.Machine.{Given, given, bracketAt, fateBy, clear, fate, opened, openedBy, after, final}
+use Rattle.rules.specs.Records.{isAverage, flagsOf, replies}
+use Rattle.rules.specs.Ranges.{Ranged, InRange, ReplyFacts}
 use Rattle.rules.proofs.Truth.{impossible}
 use Rattle.rules.proofs.ListLaws.{all-map}
 use Rattle.rules.proofs.Each.{Each, each, each-replies}
 use Rattle.rules.proofs.Order.{hear-f1, opened-f1}
 use Rattle.rules.proofs.Ranges.{ranged-opened, ranged-hear, in-range}
+use Rattle.rules.proofs.References.{near-exact}
 use Rattle.rules.proofs.Apart.{edge-end}
 use Rattle.rules.proofs.Settled.{edge-timed}
 
 -- ---- F2
 
 -- what the F2 of a bracket is: the edge 168, 167 or 169 ticks later
-pub data Framing (set : Settings) (E : ℕ → Edge) (u : ℕ) (f : Pulse) : Type 0 where
-  at168 : stands (E (u + 168)) ≡ true → f ≡ E (u + 168) .pulse → Framing set E u f
-  at167 : stands (E (u + 167)) ≡ true → f ≡ E (u + 167) .pulse → Framing set E u f
-  at169 : stands (E (u + 169)) ≡ true → f ≡ E (u + 169) .pulse → Framing set E u f
+pub data Framing (G : Given) (u : ℕ) (f : Pulse) : Type 0 where
+  at168 : stands (G .edge (u + 168)) ≡ true → f ≡ G .edge (u + 168) .pulse → Framing G u f
+  at167 : stands (G .edge (u + 167)) ≡ true → f ≡ G .edge (u + 167) .pulse → Framing G u f
+  at169 : stands (G .edge (u + 169)) ≡ true → f ≡ G .edge (u + 169) .pulse → Framing G u f
 
 with-same : (f g : Pulse) → With f ≡ With g → g ≡ f
 with-same f g e = cc
 
-pub framing : (set : Settings) (E : ℕ → Edge) (u : ℕ) (f : Pulse) → bracketAt set E u ≡ With f → Framing set E u f
+pub framing : (G : Given) (u : ℕ) (f : Pulse) → bracketAt G u ≡ With f → Framing G u f
 unfolding bracketAt
-framing set E u f = go (stands (E (u + 168))) (eqb (set .tolerance) 0) (stands (E (u + 167))) (stands (E (u + 169))) refl refl refl
+framing G u f = go (stands (G .edge (u + 168))) (eqb (G .settings .tolerance) 0) (stands (G .edge (u + 167))) (stands (G .edge (u + 169))) refl refl refl
   where
-    go : (a t b c : Bool) → stands (E (u + 168)) ≡ a → stands (E (u + 167)) ≡ b → stands (E (u + 169)) ≡ c
-        → cond a (With (E (u + 168) .pulse)) (cond t Without (cond b (With (E (u + 167) .pulse)) (cond c (With (E (u + 169) .pulse)) Without))) ≡ With f → Framing set E u f
-    go true t b c p q r e = at168 p (with-same (E (u + 168) .pulse) f e)
+    go : (a t b c : Bool) → stands (G .edge (u + 168)) ≡ a → stands (G .edge (u + 167)) ≡ b → stands (G .edge (u + 169)) ≡ c
+        → cond a (With (G .edge (u + 168) .pulse)) (cond t Without (cond b (With (G .edge (u + 167) .pulse)) (cond c (With (G .edge (u + 169) .pulse)) Without))) ≡ With f → Framing G u f
+    go true t b c p q r e = at168 p (with-same (G .edge (u + 168) .pulse) f e)
     go false true b c p q r e = absurd (let z : _≡_ {A = ℕ} 0 1 = cc in omega arith)
-    go false false true c p q r e = at167 q (with-same (E (u + 167) .pulse) f e)
-    go false false false true p q r e = at169 r (with-same (E (u + 169) .pulse) f e)
+    go false false true c p q r e = at167 q (with-same (G .edge (u + 167) .pulse) f e)
+    go false false false true p q r e = at169 r (with-same (G .edge (u + 169) .pulse) f e)
     go false false false false p q r e = absurd (let z : _≡_ {A = ℕ} 0 1 = cc in omega arith)
+
+average-bit : (m : Marks) (e : Estimate) → bit 0 (flagsOf m e) ≡ isAverage e
+average-bit m e = go (isAverage e) (m .second) (m .main) (m .military)
+  where
+    go : (a b c d : Bool) → bit 0 (cond a 1 0 + (cond b 2 0 + (cond c 0 4 + cond d 8 0))) ≡ a
+    go true true true true = refl
+    go true true true false = refl
+    go true true false true = refl
+    go true true false false = refl
+    go true false true true = refl
+    go true false true false = refl
+    go true false false true = refl
+    go true false false false = refl
+    go false true true true = refl
+    go false true true false = refl
+    go false true false true = refl
+    go false true false false = refl
+    go false false true true = refl
+    go false false true false = refl
+    go false false false true = refl
+    go false false false false = refl
+
+reply-facts : (set : Settings) → Allowed set → (r : Reply) → Ranged r → ReplyFacts set r
+unfolding agrees
+reply-facts set ok r h =
+    let i = in-range r h in
+    let k = r .reference .n - 1 in
+    record {
+      n-least = h .least;
+      n-most = i .n;
+      s-most = i .s;
+      reference = i .reference;
+      code = i .code;
+      confidence = i .confidence;
+      averaged = average-bit (r .marks) (r .reference .estimate) ∙ h .averages;
+      whole = h .whole;
+      exact = h .exact;
+      agrees =
+          λ v l.
+          let z : v * 2 ^ k + set .window * 2 ^ k ≡ (v + set .window) * 2 ^ k = omega arith in
+          near-exact k (h .whole) v (set .window) (level (r .reference .estimate)) (omega (arith, i .n)) (h .bounded) l (ok .window) (h .exact)
+          ∙ ap (λ (x : ℕ). leb (h .whole) x && leb (v * 2 ^ k) (h .whole + set .window * 2 ^ k)) z;
+    }
 
 module _ (set : Settings) (ok : Allowed set) (T : Trace) where
   -- ---- a reply's F1 is 168 ticks or more before the end
@@ -60,24 +106,24 @@ module _ (set : Settings) (ok : Allowed set) (T : Trace) where
   early-tick : (r : Reply) (t : Tick) → r .f1 ≡ t → t .0 + 168 ≤ length (T .flags) → Early r
   early-tick r t e h = record { early = subst (λ (x : Tick). x .0 + 168 ≤ length (T .flags)) (sym e) h }
 
-  framed-early : (u : ℕ) (f : Pulse) → Framing set (edgeAt set T) u f → u + 168 ≤ length (T .flags)
+  framed-early : (u : ℕ) (f : Pulse) → Framing (given set T) u f → u + 168 ≤ length (T .flags)
   framed-early u f (at168 p q) = omega (arith, edge-end set ok T (u + 168) p)
   framed-early u f (at167 p q) = omega (arith, edge-end set ok T (u + 167) p)
   framed-early u f (at169 p q) = omega (arith, edge-end set ok T (u + 169) p)
 
-  early-each : (n : ℕ) → Each Early (after _+_ set (edgeAt set T) n)
+  early-each : (n : ℕ) → Each Early (after _+_ (given set T) n)
   early-each =
-      each Early set (edgeAt set T)
+      each Early (given set T)
       (λ u other r h. early-tick (hear _+_ set (edgeAt set T u .pulse) other r) (r .f1) (hear-f1 set (edgeAt set T u .pulse) other r) (h .early))
       (λ u s f b ks x.
       early-tick (opened (edgeAt set T u .pulse) f ks) (edgeAt set T u .pulse .tick) (opened-f1 (edgeAt set T u .pulse) f ks)
-      (subst (λ (v : ℕ). v + 168 ≤ length (T .flags)) (sym (edge-timed set T .tick u)) (framed-early u f (framing set (edgeAt set T) u f b))))
+      (subst (λ (v : ℕ). v + 168 ≤ length (T .flags)) (sym (edge-timed set T .tick u)) (framed-early u f (framing (given set T) u f b))))
 
   pub all-early : All (λ r. f1 r + 168 ≤ length (T .flags)) (replies (final set T))
   unfolding final
   all-early =
-      all-map Early (λ r. f1 r + 168 ≤ length (T .flags)) (λ r h. h .early) (replies (after _+_ set (edgeAt set T) (length (T .flags))))
-      (each-replies Early (after _+_ set (edgeAt set T) (length (T .flags))) (early-each (length (T .flags))))
+      all-map Early (λ r. f1 r + 168 ≤ length (T .flags)) (λ r h. h .early) (replies (after _+_ (given set T) (length (T .flags))))
+      (each-replies Early (after _+_ (given set T) (length (T .flags))) (early-each (length (T .flags))))
 
   -- ---- ranges
 
@@ -92,22 +138,29 @@ module _ (set : Settings) (ok : Allowed set) (T : Trace) where
         go (v ∷ l) zero h = h .0
         go (v ∷ l) (suc n) h = go l n (h .1)
 
-    pub framed-byte : (u : ℕ) (f : Pulse) → Framing set (edgeAt set T) u f → f .value ≤ 255
+    pub framed-byte : (u : ℕ) (f : Pulse) → Framing (given set T) u f → f .value ≤ 255
     framed-byte u f (at168 p q) = rw q (value-byte (u + 168))
     framed-byte u f (at167 p q) = rw q (value-byte (u + 167))
     framed-byte u f (at169 p q) = rw q (value-byte (u + 169))
 
-    pub ranged-each : (n : ℕ) → Each Ranged (after _+_ set (edgeAt set T) n)
+    pub ranged-each : (n : ℕ) → Each Ranged (after _+_ (given set T) n)
     ranged-each =
-        each Ranged set (edgeAt set T) (λ u other r h. ranged-hear set (edgeAt set T u .pulse) other r (value-byte u) h)
-        (λ u s f b ks x. ranged-opened (edgeAt set T u .pulse) f ks (value-byte u) (framed-byte u f (framing set (edgeAt set T) u f b)))
+        each Ranged (given set T) (λ u other r h. ranged-hear set (edgeAt set T u .pulse) other r (value-byte u) h)
+        (λ u s f b ks x. ranged-opened (edgeAt set T u .pulse) f ks (value-byte u) (framed-byte u f (framing (given set T) u f b)))
 
     -- N of 1 to 16, S at most 4,080, code and confidence without bit 15, a reference from 0 to 255
     pub all-in-range : All InRange (replies (final set T))
     unfolding final
     all-in-range =
-        all-map Ranged InRange in-range (replies (after _+_ set (edgeAt set T) (length (T .flags))))
-        (each-replies Ranged (after _+_ set (edgeAt set T) (length (T .flags))) (ranged-each (length (T .flags))))
+        all-map Ranged InRange in-range (replies (after _+_ (given set T) (length (T .flags))))
+        (each-replies Ranged (after _+_ (given set T) (length (T .flags))) (ranged-each (length (T .flags))))
+
+    -- all that is known of each
+    pub all-facts : All (ReplyFacts set) (replies (final set T))
+    unfolding final
+    all-facts =
+        all-map Ranged (ReplyFacts set) (reply-facts set ok) (replies (after _+_ (given set T) (length (T .flags))))
+        (each-replies Ranged (after _+_ (given set T) (length (T .flags))) (ranged-each (length (T .flags))))
 
 -- ---- where F2 is the reference, F2 has M
 
@@ -152,5 +205,5 @@ pub all-clear : (set : Settings) (T : Trace) → All Clear (replies (final set T
 unfolding final
 all-clear set T =
     let n = length (T .flags) in
-    each-replies Clear (after _+_ set (edgeAt set T) n)
-    (each Clear set (edgeAt set T) (λ u other r h. clear-hear set (edgeAt set T u .pulse) other r h) (λ u s f b ks x. clear-opened (edgeAt set T u .pulse) f ks x) n)
+    each-replies Clear (after _+_ (given set T) n)
+    (each Clear (given set T) (λ u other r h. clear-hear set (edgeAt set T u .pulse) other r h) (λ u s f b ks x. clear-opened (edgeAt set T u .pulse) f ks x) n)

@@ -5,12 +5,14 @@ use native.Mathlib.Omega.{arith}
 use mathlib.Core.Path.{_≡_, refl, sym, ap, _∙_}
 use mathlib.Core.Logic.{_⊎_, inl, inr}
 use mathlib.Core.Bool.{Bool, true, false, not, _&&_, _||_, cond, and-false, or-true}
-use mathlib.Core.List.{List}
+use mathlib.Core.List.{List, [], _∷_}
 use lib.Dec.{leb, ltb, eqb}
 use borrow.Author.Tests.{leb-true, leb-false, ltb-true, ltb-false, eqb-true, eqb-false, lt-ltb, eq-eqb, ne-eqb, not-true}
 use Rattle.rules.specs.Settings.{Settings, Allowed}
+use Rattle.rules.specs.Lists.{any}
+use Rattle.rules.specs.Samples.{odd, P, N, bad}
 use Rattle.rules.specs.Edges.{Kind, noEdge, actual, pseudo, extra, lead, falls, trailWithin, noTrail, inRun, kind, since, ageAt, kindAt}
-use Rattle.rules.specs.Sentences.{leadAt, highAfter, trailAt, Plain, Next, Run, Actual, Pseudo, Extra}
+use Rattle.rules.specs.Sentences.{leadAt, highAfter, trailAt, Plain, Next, Run, Actual, Pseudo, Extra, SaidEdges}
 use Rattle.rules.proofs.Truth.{impossible, and-left, and-right, or-left, or-right, or-second, same-or}
 use Rattle.rules.proofs.Runs.{since-add, since-suc, not-low, low-age, high-lead, age-lead, age-plain, trail-falls, Going, going-add, goesOn-is, noTrail-is, ended, reach, Reach, Sloped, no-lead-and-trail}
 
@@ -381,3 +383,28 @@ module _ (set : Settings) (ok : Allowed set) (F : List ℕ) (sloped : Sloped F) 
   one-kind =
       let d = kinds-differ (kindAt set F t) in
       (λ a p. d .0 (is-actual set ok F t a) (is-pseudo p), λ a x. d .1 (is-actual set ok F t a) (is-extra x), λ p x. d .2 (is-pseudo p) (is-extra x))
+
+-- ---- a trace without a bad byte
+
+-- no byte has P with N
+pub good-sloped : (F : List ℕ) → any bad F ≡ false → Sloped F
+unfolding P N
+good-sloped F h = record { at = go F h }
+  where
+    go : (F : List ℕ) → any bad F ≡ false → (t : ℕ) → (P F t && N F t) ≡ false
+    go [] h t = refl
+    go (b ∷ F) h zero = or-left (odd (b / 2) && odd (b / 4)) (ltb 15 b) (or-left (bad b) (any bad F) h)
+    go (b ∷ F) h (suc t) = go F (or-right (bad b) (any bad F) h) t
+
+-- so its edges are those of document 01's sentences
+pub said-edges : (set : Settings) → Allowed set → (F : List ℕ) → any bad F ≡ false → SaidEdges set F
+said-edges set ok F h =
+    let s = good-sloped F h in
+    record {
+      actual-is = λ t. actual-is set ok F t;
+      is-actual = λ t. is-actual set ok F t;
+      pseudo-is = λ t. pseudo-is set ok F s t;
+      is-pseudo = λ t. is-pseudo set ok F s t;
+      extra-is = λ t. extra-is set ok F s t;
+      is-extra = λ t. is-extra set ok F s t;
+    }

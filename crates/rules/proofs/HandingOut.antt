@@ -12,11 +12,10 @@ use Rattle.rules.specs.declared.Reply.{Reply}
 use Rattle.rules.specs.Settings.{Settings, Allowed}
 use Rattle.rules.specs.Lists.{reject, count, All}
 use Rattle.rules.specs.Samples.{Trace, _⧺_}
-use Rattle.rules.specs.Edges.{edgeAt}
 use Rattle.rules.specs.Replies.{f1}
-use Rattle.rules.specs.Machine.{final}
+use Rattle.rules.specs.Machine.{given, final}
 use Rattle.rules.specs.Records.{replies}
-use Rattle.rules.specs.Calls.{due, fresh, rest}
+use Rattle.rules.specs.Calls.{mostReplies, mostLeft, due, fresh, rest}
 use Rattle.rules.specs.Sentences.{inSpan}
 use Rattle.rules.proofs.ListLaws.{count-between, filter-all}
 use Rattle.rules.proofs.Settled.{edge-timed}
@@ -25,7 +24,7 @@ use Rattle.rules.proofs.EachReply.{all-early}
 
 pub spaced-replies : (set : Settings) (T : Trace) → Spaced (replies (final set T))
 unfolding final
-spaced-replies set T = spaced set (edgeAt set T) (edge-timed set T) (length (T .flags))
+spaced-replies set T = spaced (given set T) (edge-timed set T) (length (T .flags))
 
 -- not due after n ticks, and due p ticks later
 fresh-span : (n p c : ℕ) → p ≤ 206 * c → (r : Reply) → due n r ≡ false → due (n + p) r ≡ true → inSpan (n - 384) (206 * c) r ≡ true
@@ -34,7 +33,7 @@ fresh-span n p c h r d e =
     let m = leb-true (f1 r + 385) (n + p) e in
     rw (le-leb (n - 384) (f1 r) (omega arith), lt-ltb (f1 r) (n - 384 + 206 * c) (omega arith))
 
-pub fresh-most : (set : Settings) (T P : Trace) → length (fresh set T P) ≤ 4 * ((length (P .flags) + 205) / 206)
+pub fresh-most : (set : Settings) (T P : Trace) → length (fresh set T P) ≤ mostReplies (length (P .flags))
 unfolding fresh
 fresh-most set T P =
     let n = length (T .flags) in
@@ -54,7 +53,7 @@ early-test : (n : ℕ) (l : List Reply) → All (λ r. f1 r + 168 ≤ n) l → A
 early-test n [] h = tt
 early-test n (r ∷ l) h = (le-leb (f1 r + 168) n (h .0), early-test n l (h .1))
 
-pub rest-most : (set : Settings) → Allowed set → (T : Trace) → length (rest set T) ≤ 8
+pub rest-most : (set : Settings) → Allowed set → (T : Trace) → length (rest set T) ≤ mostLeft
 unfolding rest
 rest-most set ok T =
     let n = length (T .flags) in

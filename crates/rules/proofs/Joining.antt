@@ -13,9 +13,8 @@ use Rattle.rules.specs.Settings.{Settings, Allowed}
 use Rattle.rules.specs.Lists.{filter, reject, joined}
 use Rattle.rules.specs.Samples.{Trace, _⧺_}
 use Rattle.rules.specs.Replies.{f1}
-use Rattle.rules.specs.Edges.{edgeAt}
-use Rattle.rules.specs.Machine.{after, final}
-use Rattle.rules.specs.Records.{bytes, recordOf, records, replies}
+use Rattle.rules.specs.Machine.{given, after, final}
+use Rattle.rules.specs.Records.{recordSize, bytes, recordOf, records, replies}
 use Rattle.rules.specs.Calls.{due, handed, fresh, rest}
 use Rattle.rules.proofs.Truth.{impossible}
 use Rattle.rules.proofs.Order.{Rising, Earlier, split-rising}
@@ -106,7 +105,7 @@ module _ (set : Settings) (ok : Allowed set) where
       ∙ append-assoc (handed set T) (fresh set T P) (fresh set (T ⧺ P) Q))
 
   -- what was handed out are the replies done after all ticks but 178
-  pub handed-done : (T : Trace) → handed set T ≡ after _+_ set (edgeAt set T) (length (T .flags) - 178) .done
+  pub handed-done : (T : Trace) → handed set T ≡ after _+_ (given set T) (length (T .flags) - 178) .done
   unfolding handed final after
   handed-done T = go (leb 178 (length (T .flags))) refl
     where
@@ -114,17 +113,17 @@ module _ (set : Settings) (ok : Allowed set) where
       n = length (T .flags)
 
       l : List Reply
-      l = replies (after _+_ set (edgeAt set T) (length (T .flags)))
+      l = replies (after _+_ (given set T) (length (T .flags)))
 
-      go : (b : Bool) → leb 178 (length (T .flags)) ≡ b → filter (due (length (T .flags))) l ≡ after _+_ set (edgeAt set T) (length (T .flags) - 178) .done
-      go true e = due-after set (edgeAt set T) (edge-timed set T) n n (leb-true 178 n e) (omega arith)
+      go : (b : Bool) → leb 178 (length (T .flags)) ≡ b → filter (due (length (T .flags))) l ≡ after _+_ (given set T) (length (T .flags) - 178) .done
+      go true e = due-after (given set T) (edge-timed set T) n n (leb-true 178 n e) (omega arith)
       go false e =
           let z : n - 178 ≡ 0 = omega (arith, leb-false 178 n e) in
-          due-none n (omega (arith, leb-false 178 n e)) l ∙ sym (ap (λ (c : ℕ). after _+_ set (edgeAt set T) c .done) z)
+          due-none n (omega (arith, leb-false 178 n e)) l ∙ sym (ap (λ (c : ℕ). after _+_ (given set T) c .done) z)
 
   -- the machine after all ticks but 178 does not change by what follows
   pub after-known : (T P : Trace) → length (T .flags) ≡ length (T .values)
-      → after _+_ set (edgeAt set (T ⧺ P)) (length (T .flags) - 178) ≡ after _+_ set (edgeAt set T) (length (T .flags) - 178)
+      → after _+_ (given set (T ⧺ P)) (length (T .flags) - 178) ≡ after _+_ (given set T) (length (T .flags) - 178)
   unfolding after
   after-known T P a = go (leb 178 (length (T .flags))) refl
     where
@@ -132,11 +131,11 @@ module _ (set : Settings) (ok : Allowed set) where
       n = length (T .flags)
 
       go : (b : Bool) → leb 178 (length (T .flags)) ≡ b
-          → after _+_ set (edgeAt set (T ⧺ P)) (length (T .flags) - 178) ≡ after _+_ set (edgeAt set T) (length (T .flags) - 178)
+          → after _+_ (given set (T ⧺ P)) (length (T .flags) - 178) ≡ after _+_ (given set T) (length (T .flags) - 178)
       go true e = after-append set ok T P a (n - 178) (omega (arith, leb-true 178 n e))
       go false e =
           let z : n - 178 ≡ 0 = omega (arith, leb-false 178 n e) in
-          ap (after _+_ set (edgeAt set (T ⧺ P))) z ∙ sym (ap (after _+_ set (edgeAt set T)) z)
+          ap (after _+_ (given set (T ⧺ P))) z ∙ sym (ap (after _+_ (given set T)) z)
 
 -- ---- records end to end
 
@@ -145,11 +144,11 @@ unfolding records
 records-append [] m = refl
 records-append (r ∷ l) m = ap {B = List ℕ} (λ z. recordOf r ++ z) (records-append l m) ∙ sym (append-assoc (recordOf r) (joined (map recordOf l)) (joined (map recordOf m)))
 
-record-length : (r : Reply) → length (recordOf r) ≡ 18
+record-length : (r : Reply) → length (recordOf r) ≡ recordSize
 unfolding recordOf bytes
 record-length r = refl
 
-pub records-length : (l : List Reply) → length (records l) ≡ 18 * length l
+pub records-length : (l : List Reply) → length (records l) ≡ recordSize * length l
 unfolding records
 records-length [] = refl
 records-length (r ∷ l) = omega (arith, length-append (recordOf r) (joined (map recordOf l)), record-length r, records-length l)

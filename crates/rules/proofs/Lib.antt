@@ -22,4 +22,5 @@ pub mod Joining
 pub mod Skipping
 pub mod PastEnd
 pub mod Examples
+pub mod Checks
 pub mod Answers

@@ -1,12 +1,12 @@
 -- Lists and tests: filtering, rejecting and counting over appended lists, and properties of every element.
 use Prim.Native.Nat.{suc, _+_, _≤_}
 use native.Mathlib.Omega.{arith}
-use mathlib.Core.Path.{_≡_, refl, sym, ap, _∙_}
+use mathlib.Core.Path.{_≡_, refl, sym, ap, ap₂, _∙_}
 use mathlib.Core.Bool.{Bool, true, false, _||_, cond}
 use mathlib.Core.List.{List, [], _∷_, _++_}
 use lib.ListN.{length, length-append}
-use Rattle.rules.specs.Lists.{filter, reject, count, All}
-use Rattle.rules.proofs.Truth.{impossible}
+use Rattle.rules.specs.Lists.{any, filter, reject, count, All}
+use Rattle.rules.proofs.Truth.{impossible, or-left, or-right}
 
 module _ {X : Type 0} where
   -- ---- appended lists
@@ -159,3 +159,17 @@ module _ {X : Type 0} where
       go true false false e d g h = absurd (impossible (sym (g d e)))
       go false a true e d g h = omega arith
       go false a false e d g h = h
+
+-- ---- none of two lists passes
+
+pub any-append {ℓ} : {X : Type ℓ} (p : X → Bool) (l k : List X) → any p l ≡ false → any p k ≡ false → any p (l ++ k) ≡ false
+any-append p [] k h g = g
+any-append p (x ∷ l) k h g = ap₂ (λ (a c : Bool). a || c) (or-left (p x) (any p l) h) (any-append p l k (or-right (p x) (any p l) h) g)
+
+pub any-first {ℓ} : {X : Type ℓ} (p : X → Bool) (l k : List X) → any p (l ++ k) ≡ false → any p l ≡ false
+any-first p [] k h = refl
+any-first p (x ∷ l) k h = ap₂ (λ (a c : Bool). a || c) (or-left (p x) (any p (l ++ k)) h) (any-first p l k (or-right (p x) (any p (l ++ k)) h))
+
+pub any-second {ℓ} : {X : Type ℓ} (p : X → Bool) (l k : List X) → any p (l ++ k) ≡ false → any p k ≡ false
+any-second p [] k h = h
+any-second p (x ∷ l) k h = any-second p l k (or-right (p x) (any p (l ++ k)) h)

@@ -16,9 +16,9 @@ use Rattle.rules.specs.declared.Fate.{Fate}
 use Rattle.rules.specs.declared.Fate.the-variants.{Sidelobe, Garbled, Lost, Opens}
 use Rattle.rules.specs.Settings.{Settings}
 use Rattle.rules.specs.Lists.{any, filter, reject, All}
-use Rattle.rules.specs.Edges.{Edge, stands}
+use Rattle.rules.specs.Edges.{stands}
 use Rattle.rules.specs.Replies.{f1, position, takes, verdict, agrees, heardAt, ended, isPhantom, speaks, hear}
-use Rattle.rules.specs.Machine.{State, retired, bracketAt, fateBy, clear, fate, opened, openedBy, liveAfter, bracket, dealFrom, deal, edgeStep, step, after}
+use Rattle.rules.specs.Machine.{Given, State, retired, bracketAt, fateBy, clear, fate, opened, openedBy, liveAfter, bracket, dealFrom, deal, edgeStep, step, after}
 use Rattle.rules.specs.Records.{replies}
 use Rattle.rules.proofs.ListLaws.{filter-none, reject-none, reject-short}
 use Rattle.rules.proofs.Outcomes.{deal-length}
@@ -171,14 +171,14 @@ edge-short set e b s h = omega (arith, deal-length set e [] (bracket _+_ e b s .
 -- ---- after any number of ticks
 
 -- the edge at tick u says so
-pub record Timed (E : ℕ → Edge) : Type 0 where
-  pub tick : (u : ℕ) → E u .pulse .tick .0 ≡ u
+pub record Timed (G : Given) : Type 0 where
+  pub tick : (u : ℕ) → G .edge u .pulse .tick .0 ≡ u
 
 pub record Ordered (n : ℕ) (s : State) : Type 0 where
   pub rising : Rising 0 n (replies s)
   pub four : length (s .live) ≤ 4
 
-module _ (set : Settings) (E : ℕ → Edge) (timed : Timed E) where
+module _ (G : Given) (timed : Timed G) where
   ordered-retired : (u : ℕ) (s : State) → Ordered u s → Ordered u (retired u s)
   unfolding retired
   ordered-retired u s h =
@@ -187,32 +187,32 @@ module _ (set : Settings) (E : ℕ → Edge) (timed : Timed E) where
         four = omega (arith, h .four, reject-short (ended u) (s .live));
       }
 
-  ordered-edge : (u : ℕ) (b : Bracket) (s : State) → Ordered u s → Ordered (suc u) (edgeStep _+_ set (E u .pulse) b s)
+  ordered-edge : (u : ℕ) (b : Bracket) (s : State) → Ordered u s → Ordered (suc u) (edgeStep _+_ (G .settings) (G .edge u .pulse) b s)
   ordered-edge u b s h =
-      let e = E u .pulse in
+      let e = G .edge u .pulse in
       let q = timed .tick u in
       let z : e .tick .0 + 1 ≡ suc u = omega arith in
       record {
-        rising = subst (λ (n : ℕ). Rising 0 n (replies (edgeStep _+_ set e b s))) z (rising-edge set e b s (subst (λ (n : ℕ). Rising 0 n (replies s)) (sym q) (h .rising)));
-        four = edge-short set e b s (h .four);
+        rising = subst (λ (n : ℕ). Rising 0 n (replies (edgeStep _+_ (G .settings) e b s))) z (rising-edge (G .settings) e b s (subst (λ (n : ℕ). Rising 0 n (replies s)) (sym q) (h .rising)));
+        four = edge-short (G .settings) e b s (h .four);
       }
 
   ordered-later : (u : ℕ) (s : State) → Ordered u s → Ordered (suc u) s
   ordered-later u s h = record { rising = rising-later 0 u (suc u) (omega arith) (replies s) (h .rising); four = h .four }
 
-  ordered-step : (u : ℕ) (s : State) → Ordered u s → Ordered (suc u) (step _+_ set E u s)
+  ordered-step : (u : ℕ) (s : State) → Ordered u s → Ordered (suc u) (step _+_ G u s)
   unfolding step
-  ordered-step u s h = go (stands (E u))
+  ordered-step u s h = go (stands (G .edge u))
     where
       t : State
       t = retired u s
 
-      go : (b : Bool) → Ordered (suc u) (cond b (edgeStep _+_ set (E u .pulse) (bracketAt set E u) t) t)
-      go true = ordered-edge u (bracketAt set E u) t (ordered-retired u s h)
+      go : (b : Bool) → Ordered (suc u) (cond b (edgeStep _+_ (G .settings) (G .edge u .pulse) (bracketAt G u) t) t)
+      go true = ordered-edge u (bracketAt G u) t (ordered-retired u s h)
       go false = ordered-later u t (ordered-retired u s h)
 
   -- the replies after n ticks rise, each F1 below n, and at most four are open
-  pub ordered : (n : ℕ) → Ordered n (after _+_ set E n)
+  pub ordered : (n : ℕ) → Ordered n (after _+_ G n)
   unfolding after
   ordered zero = record { rising = omega arith; four = omega arith }
-  ordered (suc n) = ordered-step n (after _+_ set E n) (ordered n)
+  ordered (suc n) = ordered-step n (after _+_ G n) (ordered n)

@@ -15,11 +15,11 @@ use Rattle.rules.specs.declared.Fate.the-variants.{Sidelobe, Garbled, Lo
 use Rattle.rules.specs.Settings.{Settings}
 use Rattle.rules.specs.Lists.{filter, reject, count}
 use Rattle.rules.specs.Samples.{Trace}
-use Rattle.rules.specs.Edges.{Edge, stands, edgeAt}
+use Rattle.rules.specs.Edges.{stands}
 use Rattle.rules.specs.Replies.{ended, isPhantom}
-use Rattle.rules.specs.Machine.{State, retired, isBracket, bracketAt, bracketsBelow, fate, opened, liveAfter, tally, bracket, dealFrom, deal, edgeStep, step, after, final}
+use Rattle.rules.specs.Machine.{Given, given, State, retired, isBracket, bracketAt, bracketsBelow, fate, opened, liveAfter, tally, bracket, dealFrom, deal, edgeStep, step, after, final}
 use Rattle.rules.specs.declared.Totals.{Totals}
-use Rattle.rules.specs.Records.{replies, totals}
+use Rattle.rules.specs.Records.{totals}
 use Rattle.rules.proofs.ListLaws.{count-split}
 
 pub record Balanced (s : State) : Type 0 where
@@ -77,48 +77,48 @@ module _ (set : Settings) where
       let p = isPhantom (e .tick .0) in
       tally-found (fate e f (reject p (s .live))) (count p (s .live)) s
 
-  module _ (E : ℕ → Edge) where
-    step-balanced : (u : ℕ) (s : State) → Balanced s → Balanced (step _+_ set E u s)
-    unfolding step
-    step-balanced u s h = go (stands (E u))
-      where
-        t : State
-        t = retired u s
+module _ (G : Given) where
+  step-balanced : (u : ℕ) (s : State) → Balanced s → Balanced (step _+_ G u s)
+  unfolding step
+  step-balanced u s h = go (stands (G .edge u))
+    where
+      t : State
+      t = retired u s
 
-        go : (b : Bool) → Balanced (cond b (edgeStep _+_ set (E u .pulse) (bracketAt set E u) t) t)
-        go true = edge-balanced (E u .pulse) (bracketAt set E u) t (retired-balanced u s h)
-        go false = retired-balanced u s h
+      go : (b : Bool) → Balanced (cond b (edgeStep _+_ (G .settings) (G .edge u .pulse) (bracketAt G u) t) t)
+      go true = edge-balanced (G .settings) (G .edge u .pulse) (bracketAt G u) t (retired-balanced u s h)
+      go false = retired-balanced u s h
 
-    step-found : (u : ℕ) (s : State) → step _+_ set E u s .counts .found ≡ s .counts .found + cond (stands (E u) && isBracket (bracketAt set E u)) 1 0
-    unfolding step retired
-    step-found u s = go (stands (E u))
-      where
-        t : State
-        t = retired u s
+  step-found : (u : ℕ) (s : State) → step _+_ G u s .counts .found ≡ s .counts .found + cond (stands (G .edge u) && isBracket (bracketAt G u)) 1 0
+  unfolding step retired
+  step-found u s = go (stands (G .edge u))
+    where
+      t : State
+      t = retired u s
 
-        go : (b : Bool) → cond b (edgeStep _+_ set (E u .pulse) (bracketAt set E u) t) t .counts .found ≡ s .counts .found + cond (b && isBracket (bracketAt set E u)) 1 0
-        go true = edge-found (E u .pulse) (bracketAt set E u) t
-        go false = omega arith
+      go : (b : Bool) → cond b (edgeStep _+_ (G .settings) (G .edge u .pulse) (bracketAt G u) t) t .counts .found ≡ s .counts .found + cond (b && isBracket (bracketAt G u)) 1 0
+      go true = edge-found (G .settings) (G .edge u .pulse) (bracketAt G u) t
+      go false = omega arith
 
-    pub after-balanced : (n : ℕ) → Balanced (after _+_ set E n)
-    unfolding after
-    after-balanced zero = omega arith
-    after-balanced (suc n) = step-balanced n (after _+_ set E n) (after-balanced n)
+  pub after-balanced : (n : ℕ) → Balanced (after _+_ G n)
+  unfolding after
+  after-balanced zero = omega arith
+  after-balanced (suc n) = step-balanced n (after _+_ G n) (after-balanced n)
 
-    pub after-found : (n : ℕ) → after _+_ set E n .counts .found ≡ bracketsBelow set E n
-    unfolding after bracketsBelow
-    after-found zero = refl
-    after-found (suc n) =
-        step-found n (after _+_ set E n) ∙ ap (λ (k : ℕ). k + cond (stands (E n) && isBracket (bracketAt set E n)) 1 0) (after-found n)
+  pub after-found : (n : ℕ) → after _+_ G n .counts .found ≡ bracketsBelow G n
+  unfolding after bracketsBelow
+  after-found zero = refl
+  after-found (suc n) =
+      step-found n (after _+_ G n) ∙ ap (λ (k : ℕ). k + cond (stands (G .edge n) && isBracket (bracketAt G n)) 1 0) (after-found n)
 
 -- the two sides of demand 3's sum, for a whole trace
 pub record Accounted (set : Settings) (T : Trace) (x : Totals) : Type 0 where
   pub sum : x .found ≡ x .replies + x .sidelobe + x .garbled + x .lost + x .phantoms
-  pub brackets : x .found ≡ bracketsBelow set (edgeAt set T) (length (T .flags))
+  pub brackets : x .found ≡ bracketsBelow (given set T) (length (T .flags))
 
 pub accounted : (set : Settings) (T : Trace) → Accounted set T (totals (final set T))
 unfolding totals final
 accounted set T =
-    let s = after _+_ set (edgeAt set T) (length (T .flags)) in
-    let h = after-balanced set (edgeAt set T) (length (T .flags)) in
-    record { sum = omega (arith, h .fates, h .kept, length-append (s .done) (s .live)); brackets = after-found set (edgeAt set T) (length (T .flags)) }
+    let s = after _+_ (given set T) (length (T .flags)) in
+    let h = after-balanced (given set T) (length (T .flags)) in
+    record { sum = omega (arith, h .fates, h .kept, length-append (s .done) (s .live)); brackets = after-found (given set T) (length (T .flags)) }

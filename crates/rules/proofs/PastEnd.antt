@@ -14,7 +14,7 @@ use Rattle.rules.specs.Lists.{filter, reject}
 use Rattle.rules.specs.Samples.{Trace, _⧺_, A, N, M}
 use Rattle.rules.specs.Edges.{stands, lead, falls, age, trailWithin, goesOn, noTrail, inRun, kind, since, ageAt, kindAt, edgeAt}
 use Rattle.rules.specs.Replies.{f1}
-use Rattle.rules.specs.Machine.{State, retired, after, final}
+use Rattle.rules.specs.Machine.{given, State, retired, after, final}
 use Rattle.rules.specs.Records.{replies}
 use Rattle.rules.specs.Calls.{due, fresh, rest, silence}
 use Rattle.rules.proofs.Truth.{impossible}
@@ -125,30 +125,30 @@ module _ (set : Settings) (ok : Allowed set) (T : Trace) where
       go true e = absurd (omega (arith, edge-end set ok T t e))
       go false e = refl
 
-  after-end : (k : ℕ) → Same (after _+_ set (edgeAt set T) (length (T .flags) + k)) (final set T)
+  after-end : (k : ℕ) → Same (after _+_ (given set T) (length (T .flags) + k)) (final set T)
   unfolding final
   after-end zero =
       let n = length (T .flags) in
       let z : n + 0 ≡ n = omega arith in
-      subst (λ (m : ℕ). Same (after _+_ set (edgeAt set T) m) (after _+_ set (edgeAt set T) n)) (sym z) (record { list = refl; counts = refl })
+      subst (λ (m : ℕ). Same (after _+_ (given set T) m) (after _+_ (given set T) n)) (sym z) (record { list = refl; counts = refl })
   after-end (suc k) =
       let n = length (T .flags) in
-      let s = after _+_ set (edgeAt set T) n in
+      let s = after _+_ (given set T) n in
       let z : n + suc k ≡ suc (n + k) = omega arith in
-      let e = skip set (edgeAt set T) (edge-timed set T) k n (λ t l m q. absurd (impossible (sym q ∙ silent t l))) in
-      subst (λ (m : ℕ). Same (after _+_ set (edgeAt set T) m) s) (sym z)
-      (subst (λ (x : State). Same x s) (sym e) (same-retired (n + k) n s (ordered set (edgeAt set T) (edge-timed set T) n .rising)))
+      let e = skip (given set T) (edge-timed set T) k n (λ t l m q. absurd (impossible (sym q ∙ silent t l))) in
+      subst (λ (m : ℕ). Same (after _+_ (given set T) m) s) (sym z)
+      (subst (λ (x : State). Same x s) (sym e) (same-retired (n + k) n s (ordered (given set T) (edge-timed set T) n .rising)))
 
   -- past the end the machine keeps its replies and counts
-  pub past-end : (m : ℕ) → length (T .flags) ≤ m → Same (after _+_ set (edgeAt set T) m) (final set T)
+  pub past-end : (m : ℕ) → length (T .flags) ≤ m → Same (after _+_ (given set T) m) (final set T)
   past-end m h =
       let n = length (T .flags) in
       let z : n + (m - n) ≡ m = omega arith in
-      subst (λ (k : ℕ). Same (after _+_ set (edgeAt set T) k) (final set T)) z (after-end (m - n))
+      subst (λ (k : ℕ). Same (after _+_ (given set T) k) (final set T)) z (after-end (m - n))
 
   -- the machine on a trace with zeros behind it is that on the trace
-  pub after-silence : (n m : ℕ) → after _+_ set (edgeAt set (T ⧺ silence n)) m ≡ after _+_ set (edgeAt set T) m
-  after-silence n m = after-same set (edgeAt set (T ⧺ silence n)) (edgeAt set T) m (λ t l. edge-silence set T n t)
+  pub after-silence : (n m : ℕ) → after _+_ (given set (T ⧺ silence n)) m ≡ after _+_ (given set T) m
+  after-silence n m = after-same (given set (T ⧺ silence n)) (given set T) refl m (λ t l. edge-silence set T n t)
 
   silence-length : (k : ℕ) → length (T .flags ++ replicate k 0) ≡ length (T .flags) + k
   silence-length k = length-append (T .flags) (replicate k 0) ∙ ap (λ (n : ℕ). length (T .flags) + n) (length-replicate k 0)
@@ -157,7 +157,7 @@ module _ (set : Settings) (ok : Allowed set) (T : Trace) where
   unfolding final
   final-silence k =
       let N = length (T .flags ++ replicate k 0) in
-      subst (λ (s : State). Same s (after _+_ set (edgeAt set T) (length (T .flags)))) (sym (after-silence k N)) (past-end N (omega (arith, silence-length k)))
+      subst (λ (s : State). Same s (after _+_ (given set T) (length (T .flags)))) (sym (after-silence k N)) (past-end N (omega (arith, silence-length k)))
 
   all-due : (k : ℕ) → 385 ≤ k → filter (due (length (T .flags) + k)) (replies (final set T)) ≡ replies (final set T)
   all-due k h =

@@ -7,9 +7,9 @@ use lib.ListN.{length}
 use Rattle.rules.specs.Settings.{Settings}
 use Rattle.rules.specs.Lists.{All}
 use Rattle.rules.specs.Samples.{Trace, sweepLimit}
-use Rattle.rules.specs.Edges.{Edge, stands, edgeAt}
+use Rattle.rules.specs.Edges.{stands}
 use Rattle.rules.specs.Replies.{f1}
-use Rattle.rules.specs.Machine.{isBracket, bracketAt, bracketsBelow, final}
+use Rattle.rules.specs.Machine.{Given, given, isBracket, bracketAt, bracketsBelow, final}
 use Rattle.rules.specs.declared.Totals.{Totals}
 use Rattle.rules.specs.Records.{rangeOf, replies, totals}
 use Rattle.rules.proofs.ListLaws.{all-map}
@@ -26,12 +26,12 @@ pub record TwoBytes (x : Totals) : Type 0 where
   pub lost : x .lost < 65536
   pub phantoms : x .phantoms < 65536
 
-pub brackets-most : (set : Settings) (E : ℕ → Edge) (n : ℕ) → bracketsBelow set E n ≤ n
+pub brackets-most : (G : Given) (n : ℕ) → bracketsBelow G n ≤ n
 unfolding bracketsBelow
-brackets-most set E zero = omega arith
-brackets-most set E (suc n) = go (stands (E n) && isBracket (bracketAt set E n)) (brackets-most set E n)
+brackets-most G zero = omega arith
+brackets-most G (suc n) = go (stands (G .edge n) && isBracket (bracketAt G n)) (brackets-most G n)
   where
-    go : (b : Bool) → bracketsBelow set E n ≤ n → bracketsBelow set E n + cond b 1 0 ≤ suc n
+    go : (b : Bool) → bracketsBelow G n ≤ n → bracketsBelow G n + cond b 1 0 ≤ suc n
     go true h = omega arith
     go false h = omega arith
 
@@ -39,7 +39,7 @@ brackets-most set E (suc n) = go (stands (E n) && isBracket (bracketAt set E n))
 pub totals-fit : (set : Settings) (T : Trace) → length (T .flags) ≤ sweepLimit → TwoBytes (totals (final set T))
 totals-fit set T h =
     let a = accounted set T in
-    let b = brackets-most set (edgeAt set T) (length (T .flags)) in
+    let b = brackets-most (given set T) (length (T .flags)) in
     let s = a .sum in
     let c = a .brackets in
     record { found = omega arith; replies = omega arith; sidelobe = omega arith; garbled = omega arith; lost = omega arith; phantoms = omega arith }
@@ -47,7 +47,7 @@ totals-fit set T h =
 -- the replies of a trace stand in strictly rising order of F1, each F1 in the trace, at most four of them open
 pub final-ordered : (set : Settings) (T : Trace) → Ordered (length (T .flags)) (final set T)
 unfolding final
-final-ordered set T = ordered set (edgeAt set T) (edge-timed set T) (length (T .flags))
+final-ordered set T = ordered (given set T) (edge-timed set T) (length (T .flags))
 
 pub ranges-fit : (set : Settings) (T : Trace) → length (T .flags) ≤ sweepLimit → All (λ r. rangeOf (r .f1) .0 < 65536) (replies (final set T))
 ranges-fit set T h =

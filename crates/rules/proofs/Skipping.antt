@@ -15,9 +15,9 @@ use Rattle.rules.specs.declared.Bracket.the-variants.{Without}
 use Rattle.rules.specs.Settings.{Settings}
 use Rattle.rules.specs.Lists.{any, filter, reject, All}
 use Rattle.rules.specs.Samples.{bit}
-use Rattle.rules.specs.Edges.{Edge, stands}
+use Rattle.rules.specs.Edges.{stands}
 use Rattle.rules.specs.Replies.{f1, ended, position, isPosition, covers, agrees, verdict, bitOf, takes, heardAt, speaks, hear}
-use Rattle.rules.specs.Machine.{State, retired, bracketAt, bracket, dealFrom, deal, edgeStep, step, after}
+use Rattle.rules.specs.Machine.{Given, State, retired, bracketAt, bracket, dealFrom, deal, edgeStep, step, after}
 use Rattle.rules.specs.Records.{replies}
 use Rattle.rules.proofs.Truth.{impossible}
 use Rattle.rules.proofs.ListLaws.{filter-none, reject-none, all-map, all-reject}
@@ -88,21 +88,21 @@ module _ (set : Settings) (e : Pulse) where
 
 -- ---- ticks at which nothing is done but to retire
 
-module _ (set : Settings) (E : ℕ → Edge) (timed : Timed E) where
+module _ (G : Given) (timed : Timed G) where
   -- where l are the open replies: no edge stands at t, or one without a bracket that none of them covers
   abbrev pub Passed : List Reply → ℕ → Type 0
-  Passed l t = stands (E t) ≡ true → (bracketAt set E t ≡ Without) × All (λ r. covers t r ≡ false) l
+  Passed l t = stands (G .edge t) ≡ true → (bracketAt G t ≡ Without) × All (λ r. covers t r ≡ false) l
 
-  plain-step : (u : ℕ) (s : State) → Passed (retired u s .live) u → step _+_ set E u s ≡ retired u s
+  plain-step : (u : ℕ) (s : State) → Passed (retired u s .live) u → step _+_ G u s ≡ retired u s
   unfolding step edgeStep bracket deal
-  plain-step u s h = go (stands (E u)) refl
+  plain-step u s h = go (stands (G .edge u)) refl
     where
-      go : (b : Bool) → stands (E u) ≡ b → cond b (edgeStep _+_ set (E u .pulse) (bracketAt set E u) (retired u s)) (retired u s) ≡ retired u s
+      go : (b : Bool) → stands (G .edge u) ≡ b → cond b (edgeStep _+_ (G .settings) (G .edge u .pulse) (bracketAt G u) (retired u s)) (retired u s) ≡ retired u s
       go false e = refl
       go true e =
           let n = subst (λ (v : ℕ). All (λ r. covers v r ≡ false) (retired u s .live)) (sym (timed .tick u)) (h e .1) in
-          ap (λ (b : Bracket). edgeStep _+_ set (E u .pulse) b (retired u s)) (h e .0)
-          ∙ (λ i. record { done = retired u s .done; live = deal-none set (E u .pulse) [] (retired u s .live) n i; counts = retired u s .counts })
+          ap (λ (b : Bracket). edgeStep _+_ (G .settings) (G .edge u .pulse) b (retired u s)) (h e .0)
+          ∙ (λ i. record { done = retired u s .done; live = deal-none (G .settings) (G .edge u .pulse) [] (retired u s .live) n i; counts = retired u s .counts })
 
   passed-less : (u v t : ℕ) (s : State) → Passed (s .live) t → Passed (retired v (retired u s) .live) t
   unfolding retired
@@ -115,73 +115,73 @@ module _ (set : Settings) (E : ℕ → Edge) (timed : Timed E) where
   passed-once v t s h e = (h e .0, all-reject (λ (r : Reply). covers t r ≡ false) (ended v) (s .live) (h e .1))
 
   -- from c on, suc k such ticks
-  pub skip : (k c : ℕ) → ((t : ℕ) → c ≤ t → t ≤ c + k → Passed (after _+_ set E c .live) t) → after _+_ set E (suc (c + k)) ≡ retired (c + k) (after _+_ set E c)
+  pub skip : (k c : ℕ) → ((t : ℕ) → c ≤ t → t ≤ c + k → Passed (after _+_ G c .live) t) → after _+_ G (suc (c + k)) ≡ retired (c + k) (after _+_ G c)
   unfolding after
   skip zero c h =
       let z : c + 0 ≡ c = omega arith in
-      rw z (plain-step c (after _+_ set E c) (passed-once c c (after _+_ set E c) (h c (omega arith) (omega arith))))
+      rw z (plain-step c (after _+_ G c) (passed-once c c (after _+_ G c) (h c (omega arith) (omega arith))))
   skip (suc k) c h =
       let z : c + suc k ≡ suc (c + k) = omega arith in
-      let a = after _+_ set E c in
+      let a = after _+_ G c in
       let e = skip k c (λ t l m. h t l (omega arith)) in
       let n = passed-less (c + k) (suc (c + k)) (suc (c + k)) a (h (suc (c + k)) (omega arith) (omega arith)) in
       rw z
-      (plain-step (suc (c + k)) (after _+_ set E (suc (c + k))) (subst (λ (s : State). Passed (retired (suc (c + k)) s .live) (suc (c + k))) (sym e) n)
+      (plain-step (suc (c + k)) (after _+_ G (suc (c + k))) (subst (λ (s : State). Passed (retired (suc (c + k)) s .live) (suc (c + k))) (sym e) n)
       ∙ ap (retired (suc (c + k))) e
-      ∙ retired-twice (c + k) (suc (c + k)) (omega arith) c a (ordered set E timed c .rising))
+      ∙ retired-twice (c + k) (suc (c + k)) (omega arith) c a (ordered G timed c .rising))
 
   -- after tick u nothing is left for u to retire
   young-none : (u : ℕ) (l : List Reply) → All (Young u) l → All (λ r. ended u r ≡ false) l
   unfolding ended
   young-none u l y = all-map (Young u) (λ r. ended u r ≡ false) (λ r k. le-ltb (f1 r + 205) u (k .young)) l y
 
-  retired-again : (u : ℕ) → retired u (after _+_ set E (suc u)) ≡ after _+_ set E (suc u)
+  retired-again : (u : ℕ) → retired u (after _+_ G (suc u)) ≡ after _+_ G (suc u)
   unfolding retired
   retired-again u =
-      let s = after _+_ set E (suc u) in
-      let n = young-none u (s .live) (aged set E timed u .live) in
+      let s = after _+_ G (suc u) in
+      let n = young-none u (s .live) (aged G timed u .live) in
       let d = ap {B = List Reply} (λ z. s .done ++ z) (filter-none (ended u) (s .live) n) ∙ append-nil (s .done) in
       let l = reject-none (ended u) (s .live) n in
       λ i. record { done = d i; live = l i; counts = s .counts }
 
   -- with nothing to do from c to u, the state after u is that after c, retired at u
-  pub skip-to : (c u : ℕ) → c ≤ suc u → ((t : ℕ) → c ≤ t → t ≤ u → Passed (after _+_ set E c .live) t) → retired u (after _+_ set E c) ≡ after _+_ set E (suc u)
+  pub skip-to : (c u : ℕ) → c ≤ suc u → ((t : ℕ) → c ≤ t → t ≤ u → Passed (after _+_ G c .live) t) → retired u (after _+_ G c) ≡ after _+_ G (suc u)
   skip-to c u h p = go (leb c u) refl
     where
-      go : (b : Bool) → leb c u ≡ b → retired u (after _+_ set E c) ≡ after _+_ set E (suc u)
+      go : (b : Bool) → leb c u ≡ b → retired u (after _+_ G c) ≡ after _+_ G (suc u)
       go true e =
           let l = leb-true c u e in
           let k = u - c in
           let z : c + k ≡ u = omega arith in
-          sym (subst (λ (n : ℕ). after _+_ set E (suc n) ≡ retired n (after _+_ set E c)) z (skip k c (λ t a b. p t a (omega arith))))
+          sym (subst (λ (n : ℕ). after _+_ G (suc n) ≡ retired n (after _+_ G c)) z (skip k c (λ t a b. p t a (omega arith))))
       go false e =
           let z : c ≡ suc u = omega (arith, leb-false c u e) in
-          ap (λ (n : ℕ). retired u (after _+_ set E n)) z ∙ retired-again u
+          ap (λ (n : ℕ). retired u (after _+_ G n)) z ∙ retired-again u
 
   -- with nothing to do from c up to u, the step at u starts from the state after c, retired at u
-  pub visit : (c u : ℕ) → c ≤ u → ((t : ℕ) → c ≤ t → t < u → Passed (after _+_ set E c .live) t) → stands (E u) ≡ true
-      → edgeStep _+_ set (E u .pulse) (bracketAt set E u) (retired u (after _+_ set E c)) ≡ after _+_ set E (suc u)
+  pub visit : (c u : ℕ) → c ≤ u → ((t : ℕ) → c ≤ t → t < u → Passed (after _+_ G c .live) t) → stands (G .edge u) ≡ true
+      → edgeStep _+_ (G .settings) (G .edge u .pulse) (bracketAt G u) (retired u (after _+_ G c)) ≡ after _+_ G (suc u)
   unfolding after step
   visit c zero h p q =
       let z : c ≡ 0 = omega arith in
       rw (z, q)
   visit c (suc u) h p q =
-      let e = E (suc u) .pulse in
-      let b = bracketAt set E (suc u) in
+      let e = G .edge (suc u) .pulse in
+      let b = bracketAt G (suc u) in
       rw q
-      (ap (λ (s : State). edgeStep _+_ set e b s)
-      (sym (retired-twice u (suc u) (omega arith) c (after _+_ set E c) (ordered set E timed c .rising))
+      (ap (λ (s : State). edgeStep _+_ (G .settings) e b s)
+      (sym (retired-twice u (suc u) (omega arith) c (after _+_ G c) (ordered G timed c .rising))
       ∙ ap (retired (suc u)) (skip-to c u h (λ t a m. p t a (omega arith)))))
 
   -- what is done stays done: the list only grows
-  step-grows : (u : ℕ) (s : State) → length (s .done) ≤ length (step _+_ set E u s .done)
+  step-grows : (u : ℕ) (s : State) → length (s .done) ≤ length (step _+_ G u s .done)
   unfolding retired
   step-grows u s =
-      subst (λ (d : List Reply). length (s .done) ≤ length d) (sym (step-done set E timed u s)) (omega (arith, length-append (s .done) (filter (ended u) (s .live))))
+      subst (λ (d : List Reply). length (s .done) ≤ length d) (sym (step-done G timed u s)) (omega (arith, length-append (s .done) (filter (ended u) (s .live))))
 
-  pub done-grows : (c k : ℕ) → length (after _+_ set E c .done) ≤ length (after _+_ set E (k + c) .done)
+  pub done-grows : (c k : ℕ) → length (after _+_ G c .done) ≤ length (after _+_ G (k + c) .done)
   unfolding after
   done-grows c zero = let z : 0 + c ≡ c = omega arith in rw z (omega arith)
   done-grows c (suc k) =
       let z : suc k + c ≡ suc (k + c) = omega arith in
-      rw z (omega (arith, step-grows (k + c) (after _+_ set E (k + c)), done-grows c k))
+      rw z (omega (arith, step-grows (k + c) (after _+_ G (k + c)), done-grows c k))

@@ -15,9 +15,9 @@ use Rattle.rules.specs.declared.Bracket.{Bracket}
 use Rattle.rules.specs.declared.Bracket.the-variants.{Without, With}
 use Rattle.rules.specs.Settings.{Settings}
 use Rattle.rules.specs.Lists.{any, filter, reject, count, All}
-use Rattle.rules.specs.Edges.{Edge, stands}
+use Rattle.rules.specs.Edges.{stands}
 use Rattle.rules.specs.Replies.{f1, isPhantom, speaks, hear}
-use Rattle.rules.specs.Machine.{State, retired, bracketAt, fateBy, clear, fate, opened, liveAfter, bracket, dealFrom, deal, edgeStep, step, after}
+use Rattle.rules.specs.Machine.{Given, State, retired, bracketAt, fateBy, clear, fate, opened, liveAfter, bracket, dealFrom, deal, edgeStep, step, after}
 use Rattle.rules.specs.Records.{replies}
 use Rattle.rules.specs.Sentences.{inSpan}
 use Rattle.rules.proofs.ListLaws.{count-append, count-reject, count-most, count-none, count-cons, count-or, all-map}
@@ -98,28 +98,28 @@ module _ (set : Settings) where
             λ a. omega (arith, k .four a, count-append (inSpan a 206) (t .done) (t .live), count-append (inSpan a 206) (t .done) (dealFrom _+_ set e [] (t .live)), deal-count a e [] (t .live));
       }
 
-  module _ (E : ℕ → Edge) (timed : Timed E) where
-    spaced-step : (u : ℕ) (s : State) → Ordered u s → All (Old u) (s .done) → Spaced (replies s) → Spaced (replies (step _+_ set E u s))
-    unfolding step
-    spaced-step u s o d h = go (stands (E u))
-      where
-        t : State
-        t = retired u s
+module _ (G : Given) (timed : Timed G) where
+  spaced-step : (u : ℕ) (s : State) → Ordered u s → All (Old u) (s .done) → Spaced (replies s) → Spaced (replies (step _+_ G u s))
+  unfolding step
+  spaced-step u s o d h = go (stands (G .edge u))
+    where
+      t : State
+      t = retired u s
 
-        same : Spaced (replies t)
-        same = subst Spaced (sym (retired-replies u u s (o .rising))) h
+      same : Spaced (replies t)
+      same = subst Spaced (sym (retired-replies u u s (o .rising))) h
 
-        old : All (Old (suc (E u .pulse .tick .0))) (t .done)
-        old = subst (λ (v : ℕ). All (Old (suc v)) (t .done)) (sym (timed .tick u)) (aged-retired u s d .done)
+      old : All (Old (suc (G .edge u .pulse .tick .0))) (t .done)
+      old = subst (λ (v : ℕ). All (Old (suc v)) (t .done)) (sym (timed .tick u)) (aged-retired u s d .done)
 
-        go : (b : Bool) → Spaced (replies (cond b (edgeStep _+_ set (E u .pulse) (bracketAt set E u) t) t))
-        go true = spaced-edge (E u .pulse) (bracketAt set E u) t old same
-        go false = same
+      go : (b : Bool) → Spaced (replies (cond b (edgeStep _+_ (G .settings) (G .edge u .pulse) (bracketAt G u) t) t))
+      go true = spaced-edge (G .settings) (G .edge u .pulse) (bracketAt G u) t old same
+      go false = same
 
-    pub spaced : (n : ℕ) → Spaced (replies (after _+_ set E n))
-    unfolding after
-    spaced zero = record { four = λ a. omega arith }
-    spaced (suc n) = spaced-step n (after _+_ set E n) (ordered set E timed n) (old-done set E timed n) (spaced n)
+  pub spaced : (n : ℕ) → Spaced (replies (after _+_ G n))
+  unfolding after
+  spaced zero = record { four = λ a. omega arith }
+  spaced (suc n) = spaced-step n (after _+_ G n) (ordered G timed n) (old-done G timed n) (spaced n)
 
 -- ---- spans of more ticks
 

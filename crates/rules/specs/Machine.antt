@@ -1,4 +1,4 @@
--- Brackets and the plain machine. `E t` is the edge at tick t, if there is one. The open replies are a list in order of F1.
+-- Brackets and the plain machine. The open replies are a list in order of F1.
 use Prim.Native.Nat.{ℕ, zero, suc, _+_, _^_}
 use mathlib.Core.Bool.{Bool, true, false, not, _&&_, _||_, cond}
 use mathlib.Core.List.{List, [], _∷_, _++_}
@@ -16,6 +16,15 @@ use Rattle.rules.specs.Lists.{any, filter, reject, count}
 use Rattle.rules.specs.Samples.{Trace, decoders}
 use Rattle.rules.specs.Edges.{Edge, stands, edgeAt}
 use Rattle.rules.specs.Replies.{covers, inside, military, isPhantom, ended, speaks, hear, lone}
+
+-- What the machine is given of a sweep: the settings, and the edge at each tick, if there is one.
+pub record Given : Type 0 where
+  pub settings : Settings
+  pub edge : ℕ → Edge
+
+-- what a trace gives it
+abbrev pub given : Settings → Trace → Given
+given set T = record { settings = set; edge = edgeAt set T }
 
 pub record State : Type 0 where
   -- the replies opened and not removed that are no longer open, and those that are, in order of F1
@@ -47,17 +56,17 @@ abbrev pub isBracket : Bracket → Bool
 isBracket Without = false
 isBracket (With f) = true
 
-module _ (set : Settings) (E : ℕ → Edge) where
+module _ (G : Given) where
   -- the bracket at an edge at u, if one stands there
   unfoldable pub bracketAt : ℕ → Bracket
   unfolding bracketOf
-  bracketAt u = bracketOf set (E (u + 168)) (E (u + 167)) (E (u + 169))
+  bracketAt u = bracketOf (G .settings) (G .edge (u + 168)) (G .edge (u + 167)) (G .edge (u + 169))
 
   -- the number of edges below tick n at which a bracket stands
   unfoldable pub bracketsBelow : ℕ → ℕ
   unfolding bracketAt
   bracketsBelow zero = 0
-  bracketsBelow (suc n) = bracketsBelow n + cond (stands (E n) && isBracket (bracketAt n)) 1 0
+  bracketsBelow (suc n) = bracketsBelow n + cond (stands (G .edge n) && isBracket (bracketAt n)) 1 0
 
 -- ---- what becomes of a bracket
 
@@ -151,19 +160,19 @@ module _ (plus : ℕ → ℕ → ℕ) where
     unfolding bracket deal
     edgeStep e b s = deal e (bracket e b s)
 
-    module _ (E : ℕ → Edge) where
-      -- "The machine takes the edges by rising tick u."
-      unfoldable pub step : ℕ → State → State
-      unfolding retired edgeStep bracketAt
-      step u s = let t = retired u s in cond (stands (E u)) (edgeStep (E u .pulse) (bracketAt set E u) t) t
+  module _ (G : Given) where
+    -- "The machine takes the edges by rising tick u."
+    unfoldable pub step : ℕ → State → State
+    unfolding retired edgeStep bracketAt
+    step u s = let t = retired u s in cond (stands (G .edge u)) (edgeStep (G .settings) (G .edge u .pulse) (bracketAt G u) t) t
 
-      -- the state after the ticks below n
-      unfoldable pub after : ℕ → State
-      unfolding step
-      after zero = start
-      after (suc n) = step n (after n)
+    -- the state after the ticks below n
+    unfoldable pub after : ℕ → State
+    unfolding step
+    after zero = start
+    after (suc n) = step n (after n)
 
 -- the state after a whole trace
 unfoldable pub final : Settings → Trace → State
 unfolding after edgeAt
-final set T = after _+_ set (edgeAt set T) (length (T .flags))
+final set T = after _+_ (given set T) (length (T .flags))

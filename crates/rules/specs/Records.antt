@@ -2,7 +2,7 @@
 use Prim.Native.Nat.{ℕ, zero, suc, _+_, _-_, _*_, _/_, _%_, _^_}
 use mathlib.Core.Bool.{Bool, true, false, cond}
 use mathlib.Core.List.{List, [], _∷_, _++_, map}
-use lib.ListN.{length}
+use lib.ListN.{length, take}
 use lib.Ieee.{binary64, toBits}
 use Rattle.rules.specs.declared.Tick.{Tick}
 use Rattle.rules.specs.declared.Range.{Range}
@@ -36,6 +36,10 @@ flagsOf m e = cond (isAverage e) 1 0 + (cond (m .second) 2 0 + (cond (m .main) 0
 abbrev pub confidence : ℕ → ℕ
 confidence unsure = 2 ^ 15 - 1 - unsure
 
+-- "18 bytes"
+abbrev pub recordSize : ℕ
+recordSize = 18
+
 -- "18 bytes, high byte first: range (2), code (2), confidence (2), flags (1), N (1), S (2), reference as binary64 bits (8)."
 unfoldable pub recordOf : Reply → List ℕ
 unfolding bytes toBits
@@ -49,9 +53,17 @@ unfoldable pub records : List Reply → List ℕ
 unfolding recordOf
 records l = joined (map recordOf l)
 
+-- The first records of a buffer, as many as a count says.
+abbrev pub firstRecords : ℕ → List ℕ → List ℕ
+firstRecords n b = take (recordSize * n) b
+
 -- the replies opened and not removed, in order of F1
 abbrev pub replies : State → List Reply
 replies s = s .done ++ s .live
+
+-- six totals of 2 bytes
+abbrev pub totalsSize : ℕ
+totalsSize = 12
 
 -- "the totals found, replies (opened and not removed), sidelobe, garbled, lost, phantoms"
 unfoldable pub totals : State → Totals

@@ -1,13 +1,21 @@
 -- Samples and units. A trace is a list of flag bytes and a list of monopulse values, one of each for a tick.
 use Prim.Native.Nat.{ℕ, _/_, _%_, _^_}
 use mathlib.Core.Bool.{Bool, _&&_, _||_}
-use mathlib.Core.List.{List, _++_}
+use mathlib.Core.List.{List, [], _++_}
 use lib.Dec.{ltb, eqb}
 use lib.ListN.{getD}
 
 pub record Trace : Type 0 where
   pub flags : List ℕ
   pub values : List ℕ
+
+-- the flags and the values that a caller lends
+abbrev pub lent : List ℕ → List ℕ → Trace
+lent flags values = record { flags = flags; values = values }
+
+-- no tick at all
+abbrev pub nothing : Trace
+nothing = record { flags = []; values = [] }
 
 -- a trace and the piece that comes after it
 infixl 65 _⧺_

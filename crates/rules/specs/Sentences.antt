@@ -8,7 +8,7 @@ use lib.Dec.{leb, ltb}
 use Rattle.rules.specs.declared.Reply.{Reply}
 use Rattle.rules.specs.Settings.{Settings}
 use Rattle.rules.specs.Samples.{odd}
-use Rattle.rules.specs.Edges.{lead, falls, since}
+use Rattle.rules.specs.Edges.{actual, pseudo, extra, lead, falls, since, kindAt}
 use Rattle.rules.specs.Replies.{f1}
 
 -- ---- edges, in the flags F of a trace
@@ -71,6 +71,15 @@ module _ (set : Settings) (F : List ℕ) (t : ℕ) where
     pub first : 1 ≤ j
     pub tick : t ≡ s + 4 * j
     pub upTo : ((trailAt F e ≡ true) × (t + 8 ≤ e)) ⊎ ((leadAt F e ≡ true) × (t + 4 ≤ e))
+
+-- the edges of flags F are those of the sentences
+pub record SaidEdges (set : Settings) (F : List ℕ) : Type 0 where
+  pub actual-is : (t : ℕ) → kindAt set F t ≡ actual → Actual set F t
+  pub is-actual : (t : ℕ) → Actual set F t → kindAt set F t ≡ actual
+  pub pseudo-is : (t : ℕ) → kindAt set F t ≡ pseudo → Pseudo set F t
+  pub is-pseudo : (t : ℕ) → Pseudo set F t → kindAt set F t ≡ pseudo
+  pub extra-is : (t : ℕ) → kindAt set F t ≡ extra → Extra set F t
+  pub is-extra : (t : ℕ) → Extra set F t → kindAt set F t ≡ extra
 
 -- a flag byte without P, N and M if it lacks A
 abbrev pub bare : ℕ → ℕ

@@ -6,6 +6,12 @@ pub struct Tick(pub u32);
 // A range in counts of 60.4 ns: twice a tick number.
 pub struct Range(pub u32);
 
+// What a sweep is opened with: mode 1 (A), 2 (2) or 3 (C), and an azimuth from 0 to 16,383 for the whole sweep.
+pub struct Opening {
+    pub mode: u8,
+    pub azimuth: u16,
+}
+
 // The reference of a lone pulse (N = 1), or an average (N of 2 or more).
 pub enum Estimate {
     Lone(f64),
@@ -82,6 +88,15 @@ pub enum Fate {
     Lost,
     Opens,
 }
+
+// The bytes of a reply record, of the six totals, and of the buffer for the most replies that a close hands out.
+pub const RECORD: usize = 18;
+
+pub const TOTALS: usize = 12;
+
+pub const MOST_LEFT: usize = 8;
+
+pub const CLOSE_ROOM: usize = RECORD * MOST_LEFT;
 
 // The six totals of a sweep. Replies are those opened and not removed.
 pub struct Totals {

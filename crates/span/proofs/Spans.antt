@@ -13,7 +13,7 @@ use Rattle.rules.specs.declared.Bracket.the-variants.{Without, With}
 use Rattle.rules.specs.Settings.{standard}
 use Rattle.rules.specs.Samples.{Trace, M}
 use Rattle.rules.specs.Edges.{stands, edgeAt}
-use Rattle.rules.specs.Machine.{bracketOf, bracketAt}
+use Rattle.rules.specs.Machine.{given, bracketOf, bracketAt}
 use Rattle.rules.proofs.Truth.{impossible, or-left, or-right}
 use Rattle.plane.specs.Words.{bit, Holds, Slid}
 use Rattle.edges.specs.Planes.{hasEdge}
@@ -204,7 +204,7 @@ module _ (T : Trace) (s : Span) (t : ℕ) (sp : Spanned (padded (T .flags)) t s)
       subst (λ (k : ℕ). pulseIn (s .main) i k (valueOf recent base values (u + 1)) ≡ edgeAt standard T k .pulse) z
       (pulse-later 0 (s .main) (u + 1) (omega arith) (sp .main) (omega arith))
 
-  pub span-bracket : bracketIn s i u recent base values ≡ bracketAt standard (edgeAt standard T) u
+  pub span-bracket : bracketIn s i u recent base values ≡ bracketAt (given standard T) u
   unfolding bracketIn bracketAt bracketOf
   span-bracket =
       rw

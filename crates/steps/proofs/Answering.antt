@@ -4,18 +4,19 @@ use native.Mathlib.Omega.{arith}
 use native.Mathlib.Nat.{add-zero}
 use mathlib.Core.Path.{_≡_, refl, sym, ap, ap₂, _∙_, subst}
 use mathlib.Core.Bool.{Bool, true, false, true≢false}
-use mathlib.Core.List.{List, [], _++_}
+use mathlib.Core.List.{List, _++_}
 use lib.Dec.{leb}
 use lib.ListN.{length, take, drop, length-append, length-drop}
 use lib.Seq.{length-take-le, take-append-seam}
 use borrow.Author.Tests.{leb-true, le-leb}
+use Rattle.rules.specs.declared.Opening.{Opening}
 use Rattle.rules.specs.declared.Reply.{Reply}
 use Rattle.rules.specs.declared.Totals.{Totals}
 use Rattle.rules.specs.Settings.{standard}
-use Rattle.rules.specs.Samples.{Trace}
+use Rattle.rules.specs.Samples.{Trace, nothing}
 use Rattle.rules.specs.Buffers.{over, over-at}
-use Rattle.rules.specs.Records.{records}
-use Rattle.rules.specs.Calls.{Answer as RulesAnswer, accepted, refused, openAnswer}
+use Rattle.rules.specs.Records.{records, recordSize}
+use Rattle.rules.specs.Calls.{Answer as RulesAnswer, accepted, refused, openAnswer, closeRoom}
 use Rattle.rules.proofs.Buffers.{over-at-nil, over-at-next}
 use Rattle.rules.proofs.HandingOut.{fresh-most, rest-most}
 use Rattle.calls.specs.declared.Answer.{Answer}
@@ -31,7 +32,7 @@ use Rattle.reading.specs.declared.Line.{Line}
 use Rattle.reading.specs.declared.Line.the-variants.{Frame as Framed, Refused as Unread}
 use Rattle.reading.specs.declared.Frame.{Frame}
 use Rattle.reading.specs.declared.Frame.the-variants.{Samples}
-use Rattle.frames.specs.Writing.{replyLines, firstLines, totalsLine, refusalLine}
+use Rattle.frames.specs.Writing.{replyLines, firstLines, totalsLine, refusalLine, replyLineSize}
 use Rattle.reading.specs.Frames.{Reading, opening, samples, closing, reading, refused as unread}
 use Rattle.reading.specs.Post.{lineOf, flagsAfter, valuesAfter, ReadPost}
 use Rattle.frames.specs.Post.{placeBehind, bufferWith, WritePost}
@@ -41,8 +42,8 @@ use Rattle.frames.proofs.Printing.{replies-length, first-lines, totals-length}
 use Rattle.steps.specs.declared.Step.{Step}
 use Rattle.steps.specs.declared.Step.the-variants.{Goes, Stops, Full}
 use Rattle.steps.specs.declared.Stepped.{Stepped}
-use Rattle.steps.specs.Outcomes.{Outcome, stops, openedAs, openedAt, freshOf, takenAs, takenAt, restOf, closedAs, closedAt, outcomeAt, lineAt, printed}
-use Rattle.steps.specs.Post.{steppedBy, hasRoom, steppedAs, outputAs, StepPost, AnswerPost, stepOf, TakePrints, TakeShown, ClosePrints, CloseShown, pieceOf, frameAt, saidAt, numberOf, countIn}
+use Rattle.steps.specs.Outcomes.{Outcome, stops, openedAs, openedAt, freshOf, takenAs, takenAt, restOf, closedAs, closedAt, outcomeAt, lineAt, printed, lineRoom}
+use Rattle.steps.specs.Post.{steppedBy, hasRoom, steppedAs, outputAs, StepPost, AnswerPost, stepOf, TakePrints, TakeShown, ClosePrints, CloseShown, pieceOf, frameAt, saidAt, numberOf, countIn, lineMost}
 
 -- ---- answers taken apart
 
@@ -61,12 +62,12 @@ countOfAnswer (Refused k) = 0
 -- the answer of the operations, with the count n of an accepted call
 answered : RulesAnswer → ℕ → Answer
 answered accepted n = Accepted n
-answered (refused k) n = Refused k
+answered (refused k) n = Refused (k .number)
 
-refused-is : (v : RulesAnswer) (n : ℕ) (x : Answer) (k : ℕ) → x ≡ answered v n → x ≡ Refused k → v ≡ refused k
+refused-is : (v : RulesAnswer) (n : ℕ) (x : Answer) (k : ℕ) → x ≡ answered v n → x ≡ Refused k → v ≡ refused (record { number = k })
 unfolding answered isRefused numberIn
 refused-is accepted n x k e r = absurd (true≢false (ap isRefused (sym r ∙ e)))
-refused-is (refused j) n x k e r = ap refused (ap numberIn (sym e ∙ r))
+refused-is (refused j) n x k e r = ap (λ (m : ℕ). refused (record { number = m })) (ap numberIn (sym e ∙ r))
 
 record Accepts (v : RulesAnswer) (n m : ℕ) : Type 0 where
   is-accepted : v ≡ accepted
@@ -106,8 +107,8 @@ write-size l at b e b′ w = go (leb (at + length l) (length b)) refl
 -- ---- the lines of the records in a lent buffer
 
 -- as many as were handed out are written as lines
-records-wrote : (F : List Reply) (h h₀ : List ℕ) (n : ℕ) → h ≡ over (records F) h₀ → n ≡ length F → 18 * length F ≤ length h₀ → (at : ℕ) (b : List ℕ) (e : ℕ) (b′ : List ℕ)
-    → at + 39 * length F ≤ length b → WritePost (firstLines n h) at b e b′ → Wrote (replyLines F) at b e b′
+records-wrote : (F : List Reply) (h h₀ : List ℕ) (n : ℕ) → h ≡ over (records F) h₀ → n ≡ length F → recordSize * length F ≤ length h₀ → (at : ℕ) (b : List ℕ) (e : ℕ) (b′ : List ℕ)
+    → at + replyLineSize * length F ≤ length b → WritePost (firstLines n h) at b e b′ → Wrote (replyLines F) at b e b′
 records-wrote F h h₀ n is count few at b e b′ room w =
     wrote (replyLines F) at b e b′ (omega (arith, replies-length F)) (subst (λ (l : List ℕ). WritePost l at b e b′) (first-lines F h h₀ n is count few) w)
 
@@ -137,15 +138,15 @@ module _ (p : Processor) (at : ℕ) (b : List ℕ) where
 
   -- ---- a piece, lent a buffer of so many bytes, enough for all its replies
 
-  module _ (P : Trace) (bytes : ℕ) (few : (σ : Sweep) → 18 * length (freshOf σ P) ≤ bytes) (h₀ h : List ℕ) (lent : length h₀ ≡ bytes) (t : Taken) (post : TakePost p P h₀ t h) where
+  module _ (P : Trace) (bytes : ℕ) (few : (σ : Sweep) → recordSize * length (freshOf σ P) ≤ bytes) (h₀ h : List ℕ) (lent : length h₀ ≡ bytes) (t : Taken) (post : TakePost p P h₀ t h) where
     count-fresh : (σ : Sweep) → countOf σ P ≡ length (freshOf σ P)
     count-fresh none = refl
-    count-fresh (running mode azimuth T) = refl
+    count-fresh (running ω T) = refl
 
     handed-fresh : (σ : Sweep) → handedOut σ P ≡ records (freshOf σ P)
     unfolding records
     handed-fresh none = refl
-    handed-fresh (running mode azimuth T) = refl
+    handed-fresh (running ω T) = refl
 
     take-is : (σ : Sweep) → Made σ p → t ≡ takeAs (takeAnswerAt σ P bytes) σ P
     take-is σ m = post .result σ m ∙ ap (λ (n : ℕ). takeAs (takeAnswerAt σ P n) σ P) lent
@@ -160,7 +161,7 @@ module _ (p : Processor) (at : ℕ) (b : List ℕ) where
 
     -- it was refused
     module _ (k : ℕ) (e : t .answer ≡ Refused k) (σ : Sweep) (m : Made σ p) where
-      pub turned-down : takeAnswerAt σ P bytes ≡ refused k
+      pub turned-down : takeAnswerAt σ P bytes ≡ refused (record { number = k })
       turned-down = refused-is (takeAnswerAt σ P bytes) (countOf σ P) (t .answer) k (answer-of σ m) e
 
       pub given-back : t .processor ≡ p
@@ -182,10 +183,10 @@ module _ (p : Processor) (at : ℕ) (b : List ℕ) where
           post .buffer σ m ∙ ap (λ (k : ℕ). takeBufferAs (takeAnswerAt σ P k) σ P h₀) lent ∙ ap (λ (v : RulesAnswer). takeBufferAs v σ P h₀) (acc .is-accepted)
           ∙ ap (λ (l : List ℕ). over l h₀) (handed-fresh σ)
 
-      pub replies-wrote : (e : ℕ) (b′ : List ℕ) → at + 39 * length (freshOf σ P) ≤ length b → WritePost (firstLines n h) at b e b′ → Wrote (replyLines (freshOf σ P)) at b e b′
+      pub replies-wrote : (e : ℕ) (b′ : List ℕ) → at + replyLineSize * length (freshOf σ P) ≤ length b → WritePost (firstLines n h) at b e b′ → Wrote (replyLines (freshOf σ P)) at b e b′
       replies-wrote e b′ room w = records-wrote (freshOf σ P) h h₀ n left (acc .count ∙ count-fresh σ) (omega (arith, few σ, lent)) at b e b′ room w
 
-  module _ (room : at + 339 ≤ length b) where
+  module _ (room : at + lineMost ≤ length b) where
     -- ---- a refusal
 
     pub stop-post : (k e : ℕ) (b′ : List ℕ) → WritePost (refusalLine k) at b e b′ → AnswerPost (λ σ. stops k) p at b (record { step = Stops k e; processor = p }) b′
@@ -199,50 +200,50 @@ module _ (p : Processor) (at : ℕ) (b : List ℕ) where
 
     -- ---- opening
 
-    module _ (mode azimuth : ℕ) (o : Opened) (is : o ≡ openOf mode azimuth) where
-      open-answer : (v : RulesAnswer) → openAs v mode azimuth .answer ≡ answered v 0
+    module _ (ω : Opening) (o : Opened) (is : o ≡ openOf ω) where
+      open-answer : (v : RulesAnswer) → openAs v ω .answer ≡ answered v 0
       unfolding answered
       open-answer accepted = refl
       open-answer (refused k) = refl
 
-      answer-is : o .answer ≡ answered (openAnswer mode azimuth) 0
+      answer-is : o .answer ≡ answered (openAnswer ω) 0
       unfolding openOf
-      answer-is = ap (λ (x : Opened). x .answer) is ∙ open-answer (openAnswer mode azimuth)
+      answer-is = ap (λ (x : Opened). x .answer) is ∙ open-answer (openAnswer ω)
 
       pub open-refused : (k : ℕ) → o .answer ≡ Refused k → (r : Stepped) (b′ : List ℕ) → AnswerPost (λ σ. stops k) p at b r b′
-          → AnswerPost (openedAt mode azimuth) p at b r b′
+          → AnswerPost (openedAt ω) p at b r b′
       open-refused k e r b′ c =
-          outcome-as (openedAt mode azimuth) (λ σ. stops k) r b′
-          (λ σ m. ap (λ (v : RulesAnswer). openedAs v mode azimuth) (refused-is (openAnswer mode azimuth) 0 (o .answer) k answer-is e)) c
+          outcome-as (openedAt ω) (λ σ. stops k) r b′
+          (λ σ m. ap (λ (v : RulesAnswer). openedAs v ω) (refused-is (openAnswer ω) 0 (o .answer) k answer-is e)) c
 
       pub open-accepted : (n : ℕ) → o .answer ≡ Accepted n
-          → AnswerPost (openedAt mode azimuth) p at b (record { step = Goes at; processor = o .processor }) b
+          → AnswerPost (openedAt ω) p at b (record { step = Goes at; processor = o .processor }) b
       unfolding openOf processorOf
       open-accepted n e =
-          let a = accepted-is (openAnswer mode azimuth) 0 (o .answer) n answer-is e in
-          let q : o .processor ≡ runningProcessor mode azimuth (record { flags = []; values = [] }) =
-          ap (λ (x : Opened). x .processor) is ∙ ap (λ (v : RulesAnswer). openAs v mode azimuth .processor) (a .is-accepted) in
+          let a = accepted-is (openAnswer ω) 0 (o .answer) n answer-is e in
+          let q : o .processor ≡ runningProcessor ω nothing =
+          ap (λ (x : Opened). x .processor) is ∙ ap (λ (v : RulesAnswer). openAs v ω .processor) (a .is-accepted) in
           record {
             inside = omega arith;
             result = λ σ m.
                 ap₂ (λ (x : ℕ) (y : Processor). record { step = Goes x; processor = y }) (sym (add-zero at)) q
-                ∙ ap (λ (v : RulesAnswer). steppedBy (openedAs v mode azimuth) p at) (sym (a .is-accepted));
-            output = λ σ m. sym (over-at-nil at b) ∙ ap (λ (v : RulesAnswer). over-at (printed (openedAs v mode azimuth)) at b) (sym (a .is-accepted));
+                ∙ ap (λ (v : RulesAnswer). steppedBy (openedAs v ω) p at) (sym (a .is-accepted));
+            output = λ σ m. sym (over-at-nil at b) ∙ ap (λ (v : RulesAnswer). over-at (printed (openedAs v ω)) at b) (sym (a .is-accepted));
           }
 
     -- ---- a piece of at most 64 ticks
 
-    module _ (P : Trace) (small : length (P .flags) ≤ 64) (h₀ h : List ℕ) (lent : length h₀ ≡ 72) (t : Taken) (post : TakePost p P h₀ t h) where
-      fresh-few : (σ : Sweep) → 18 * length (freshOf σ P) ≤ 72
+    module _ (P : Trace) (small : length (P .flags) ≤ 64) (h₀ h : List ℕ) (lent : length h₀ ≡ lineRoom) (t : Taken) (post : TakePost p P h₀ t h) where
+      fresh-few : (σ : Sweep) → recordSize * length (freshOf σ P) ≤ lineRoom
       fresh-few none = omega arith
-      fresh-few (running mode azimuth T) = omega (arith, fresh-most standard T P)
+      fresh-few (running ω T) = omega (arith, fresh-most standard T P)
 
       pub take-refused : (k : ℕ) → t .answer ≡ Refused k → (r : Stepped) (b′ : List ℕ) → AnswerPost (λ σ. stops k) (t .processor) at b r b′
           → AnswerPost (takenAt P) p at b r b′
       take-refused k e r b′ c =
           outcome-as (takenAt P) (λ σ. stops k) r b′
-          (λ σ m. ap (λ (v : RulesAnswer). takenAs v σ P) (turned-down P 72 fresh-few h₀ h lent t post k e σ m))
-          (stop-same (t .processor) k r b′ (λ σ m. given-back P 72 fresh-few h₀ h lent t post k e σ m) c)
+          (λ σ m. ap (λ (v : RulesAnswer). takenAs v σ P) (turned-down P lineRoom fresh-few h₀ h lent t post k e σ m))
+          (stop-same (t .processor) k r b′ (λ σ m. given-back P lineRoom fresh-few h₀ h lent t post k e σ m) c)
 
       pub take-accepted : (n : ℕ) → t .answer ≡ Accepted n → (e : ℕ) (b′ : List ℕ) → WritePost (firstLines n h) at b e b′
           → AnswerPost (takenAt P) p at b (record { step = Goes e; processor = t .processor }) b′
@@ -250,34 +251,34 @@ module _ (p : Processor) (at : ℕ) (b : List ℕ) where
           record {
             inside = write-inside (firstLines n h) at b e b′ (omega arith) w;
             result = λ σ m.
-                ap₂ (λ (x : ℕ) (y : Processor). record { step = Goes x; processor = y }) (put σ m .place) (went-on P 72 fresh-few h₀ h lent t post n q σ m)
+                ap₂ (λ (x : ℕ) (y : Processor). record { step = Goes x; processor = y }) (put σ m .place) (went-on P lineRoom fresh-few h₀ h lent t post n q σ m)
                 ∙ ap (λ (v : RulesAnswer). steppedBy (takenAs v σ P) p at) (sym (accepts σ m));
             output = λ σ m. put σ m .buffer ∙ ap (λ (v : RulesAnswer). over-at (printed (takenAs v σ P)) at b) (sym (accepts σ m));
           }
         where
-          accepts : (σ : Sweep) → Made σ p → takeAnswerAt σ P 72 ≡ accepted
-          accepts σ m = was-accepted P 72 fresh-few h₀ h lent t post n q σ m
+          accepts : (σ : Sweep) → Made σ p → takeAnswerAt σ P lineRoom ≡ accepted
+          accepts σ m = was-accepted P lineRoom fresh-few h₀ h lent t post n q σ m
 
           put : (σ : Sweep) → Made σ p → Wrote (replyLines (freshOf σ P)) at b e b′
-          put σ m = replies-wrote P 72 fresh-few h₀ h lent t post n q σ m e b′ (omega (arith, fresh-few σ)) w
+          put σ m = replies-wrote P lineRoom fresh-few h₀ h lent t post n q σ m e b′ (omega (arith, fresh-few σ)) w
 
     -- ---- the close
 
-    module _ (h₀ h : List ℕ) (lent : length h₀ ≡ 144) (t : Closed) (post : ClosePost p h₀ t h) where
+    module _ (h₀ h : List ℕ) (lent : length h₀ ≡ closeRoom) (t : Closed) (post : ClosePost p h₀ t h) where
       rest-few : (σ : Sweep) → length (restOf σ) ≤ 8
       rest-few none = omega arith
-      rest-few (running mode azimuth T) = rest-most standard standard-allowed T
+      rest-few (running ω T) = rest-most standard standard-allowed T
 
       count-rest : (σ : Sweep) → leftCount σ ≡ length (restOf σ)
       count-rest none = refl
-      count-rest (running mode azimuth T) = refl
+      count-rest (running ω T) = refl
 
       handed-rest : (σ : Sweep) → leftOver σ ≡ records (restOf σ)
       unfolding records
       handed-rest none = refl
-      handed-rest (running mode azimuth T) = refl
+      handed-rest (running ω T) = refl
 
-      close-is : (σ : Sweep) → Made σ p → t ≡ closeAs (closeAnswerAt σ 144) σ
+      close-is : (σ : Sweep) → Made σ p → t ≡ closeAs (closeAnswerAt σ closeRoom) σ
       close-is σ m = post .result σ m ∙ ap (λ (n : ℕ). closeAs (closeAnswerAt σ n) σ) lent
 
       close-answer : (σ : Sweep) (v : RulesAnswer) → closeAs v σ .answer ≡ answered v (leftCount σ)
@@ -292,8 +293,8 @@ module _ (p : Processor) (at : ℕ) (b : List ℕ) where
           (stop-same (t .processor) k r b′
           (λ σ m. ap (λ (x : Closed). x .processor) (close-is σ m) ∙ ap (λ (v : RulesAnswer). closeAs v σ .processor) (is-refused σ m) ∙ sym (m .is)) c)
         where
-          is-refused : (σ : Sweep) → Made σ p → closeAnswerAt σ 144 ≡ refused k
-          is-refused σ m = refused-is (closeAnswerAt σ 144) (leftCount σ) (t .answer) k (ap (λ (x : Closed). x .answer) (close-is σ m) ∙ close-answer σ (closeAnswerAt σ 144)) e
+          is-refused : (σ : Sweep) → Made σ p → closeAnswerAt σ closeRoom ≡ refused (record { number = k })
+          is-refused σ m = refused-is (closeAnswerAt σ closeRoom) (leftCount σ) (t .answer) k (ap (λ (x : Closed). x .answer) (close-is σ m) ∙ close-answer σ (closeAnswerAt σ closeRoom)) e
 
       pub close-accepted : (n : ℕ) → t .answer ≡ Accepted n → (e f : ℕ) (b₁ b′ : List ℕ)
           → WritePost (firstLines n h) at b e b₁ → WritePost (totalsLine (t .totals)) e b₁ f b′
@@ -312,8 +313,8 @@ module _ (p : Processor) (at : ℕ) (b : List ℕ) where
           same : length b₁ ≡ length b
           same = write-size (firstLines n h) at b e b₁ w₁
 
-          acc : (σ : Sweep) → Made σ p → Accepts (closeAnswerAt σ 144) (leftCount σ) n
-          acc σ m = accepted-is (closeAnswerAt σ 144) (leftCount σ) (t .answer) n (ap (λ (x : Closed). x .answer) (close-is σ m) ∙ close-answer σ (closeAnswerAt σ 144)) q
+          acc : (σ : Sweep) → Made σ p → Accepts (closeAnswerAt σ closeRoom) (leftCount σ) n
+          acc σ m = accepted-is (closeAnswerAt σ closeRoom) (leftCount σ) (t .answer) n (ap (λ (x : Closed). x .answer) (close-is σ m) ∙ close-answer σ (closeAnswerAt σ closeRoom)) q
 
           left : (σ : Sweep) → Made σ p → h ≡ over (records (restOf σ)) h₀
           left σ m =
@@ -343,8 +344,8 @@ module _ (p : Processor) (at : ℕ) (b : List ℕ) where
 
 -- ---- what was printed beside an answer
 
-module _ (p : Processor) (at : ℕ) (b : List ℕ) (room : at + 339 ≤ length b) where
-  pub take-step : (P : Trace) → length (P .flags) ≤ 64 → (h₀ h : List ℕ) → length h₀ ≡ 72 → (t : Taken) → TakePost p P h₀ t h → (s : Step) (b′ : List ℕ) → TakeShown (t .answer) h at b s b′
+module _ (p : Processor) (at : ℕ) (b : List ℕ) (room : at + lineMost ≤ length b) where
+  pub take-step : (P : Trace) → length (P .flags) ≤ 64 → (h₀ h : List ℕ) → length h₀ ≡ lineRoom → (t : Taken) → TakePost p P h₀ t h → (s : Step) (b′ : List ℕ) → TakeShown (t .answer) h at b s b′
       → AnswerPost (takenAt P) p at b (record { step = s; processor = t .processor }) b′
   take-step P small h₀ h lent t post s b′ w =
       subst (λ (x : Step). AnswerPost (takenAt P) p at b (record { step = x; processor = t .processor }) b′) (sym (w .step)) (go (t .answer) refl (w .prints))
@@ -356,7 +357,7 @@ module _ (p : Processor) (at : ℕ) (b : List ℕ) (room : at + 339 ≤ length b
           take-refused p at b room P small h₀ h lent t post k e (record { step = Stops k (w .place); processor = t .processor }) b′
           (stop-post (t .processor) at b room k (w .place) b′ q)
 
-  pub close-step : (h₀ h : List ℕ) → length h₀ ≡ 144 → (t : Closed) → ClosePost p h₀ t h → (s : Step) (b′ : List ℕ) → CloseShown (t .answer) (t .totals) h at b s b′
+  pub close-step : (h₀ h : List ℕ) → length h₀ ≡ closeRoom → (t : Closed) → ClosePost p h₀ t h → (s : Step) (b′ : List ℕ) → CloseShown (t .answer) (t .totals) h at b s b′
       → AnswerPost closedAt p at b (record { step = s; processor = t .processor }) b′
   close-step h₀ h lent t post s b′ w =
       subst (λ (x : Step). AnswerPost closedAt p at b (record { step = x; processor = t .processor }) b′) (sym (w .step)) (go (t .answer) refl (w .prints))
@@ -409,19 +410,19 @@ unfolding over
 over-length l b h = length-append l (drop (length l) b) ∙ omega (arith, length-drop (length l) b)
 
 flags-after : (x : Reading) → Sized x → (b : List ℕ) → length b ≡ 64 → 64 ≡ length (flagsAfter x b)
-flags-after (opening mode azimuth) s b h = sym h
+flags-after (opening ω) s b h = sym h
 flags-after (samples P) s b h = sym (over-length (P .flags) b (omega (arith, s .most)) ∙ h)
 flags-after closing s b h = sym h
 flags-after (unread k) s b h = sym h
 
 values-after : (x : Reading) → Sized x → (b : List ℕ) → length b ≡ 64 → 64 ≡ length (valuesAfter x b)
-values-after (opening mode azimuth) s b h = sym h
+values-after (opening ω) s b h = sym h
 values-after (samples P) s b h = sym (over-length (P .values) b (omega (arith, s .most, s .alike)) ∙ h)
 values-after closing s b h = sym h
 values-after (unread k) s b h = sym h
 
 count-most : (x : Reading) → Sized x → countIn (lineOf x) ≤ 64
-count-most (opening mode azimuth) s = omega arith
+count-most (opening ω) s = omega arith
 count-most (samples P) s = s .most
 count-most closing s = omega arith
 count-most (unread k) s = omega arith
@@ -429,9 +430,9 @@ count-most (unread k) s = omega arith
 -- the frame of a line, with the samples that it left in the buffers, is what the line says
 said-reading : (x : Reading) → Sized x → (f v : List ℕ) (σ : Sweep) → saidAt (lineOf x) (flagsAfter x f) (valuesAfter x v) σ ≡ outcomeAt σ x
 unfolding over
-said-reading (opening mode azimuth) s f v σ = refl
+said-reading (opening ω) s f v σ = refl
 said-reading (samples P) s f v σ =
-    ap₂ (λ (a b : List ℕ). takenAs (takeAnswerAt σ (pieceOf a b) 72) σ (pieceOf a b))
+    ap₂ (λ (a b : List ℕ). takenAs (takeAnswerAt σ (pieceOf a b) lineRoom) σ (pieceOf a b))
     (take-append-seam (P .flags) (drop (length (P .flags)) f))
     (ap (λ (n : ℕ). take n (P .values ++ drop (length (P .values)) v)) (s .alike) ∙ take-append-seam (P .values) (drop (length (P .values)) v))
 said-reading closing s f v σ = refl

@@ -15,7 +15,7 @@ use Rattle.ends.specs.Ends.{LinePast}
 use Rattle.ends.proofs.Newlines.{plain, plain-last}
 use Rattle.steps.specs.declared.Step.the-variants.{Stops, Full}
 use Rattle.steps.specs.Outcomes.{Outcome, stops, outcomeAt, lineAt}
-use Rattle.steps.specs.Post.{steppedAs, outputAs, hasRoom, RestPost}
+use Rattle.steps.specs.Post.{steppedAs, outputAs, hasRoom, RestPost, lineMost}
 use Rattle.steps.proofs.Answering.{Wrote, wrote, write-inside}
 
 pub nine : (σ : Sweep) (l : List ℕ) → reading l ≡ unread 9 → lineAt σ l ≡ stops 9
@@ -46,4 +46,4 @@ module _ (at : ℕ) (b : List ℕ) where
       }
     where
       done : Wrote (refusalLine 9) at b e b′
-      done = wrote (refusalLine 9) at b e b′ (omega (arith, leb-true (at + 339) (length b) z)) w
+      done = wrote (refusalLine 9) at b e b′ (omega (arith, leb-true (at + lineMost) (length b) z)) w

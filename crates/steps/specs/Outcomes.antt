@@ -1,10 +1,11 @@
 -- What one line makes of a sweep, and what it prints.
 use Prim.Native.Nat.{ℕ}
 use mathlib.Core.List.{List, [], _++_}
+use Rattle.rules.specs.declared.Opening.{Opening}
 use Rattle.rules.specs.declared.Reply.{Reply}
 use Rattle.rules.specs.Settings.{standard}
-use Rattle.rules.specs.Samples.{Trace}
-use Rattle.rules.specs.Calls.{Answer, accepted, refused, openAnswer, fresh, rest}
+use Rattle.rules.specs.Samples.{Trace, nothing}
+use Rattle.rules.specs.Calls.{Answer, accepted, refused, openAnswer, fresh, rest, takeRoom, closeRoom}
 use Rattle.processor.specs.State.{Sweep, none, running}
 use Rattle.calls.specs.Post.{longer, takeAnswerAt, closeAnswerAt, totalsOf}
 use Rattle.reading.specs.Frames.{Reading, opening, samples, closing, reading, refused as unread}
@@ -16,38 +17,42 @@ pub data Outcome : Type 0 where
   stops : ℕ → Outcome
 
 -- "`01` during a sweep starts afresh": whatever the sweep was
-abbrev pub openedAs : Answer → ℕ → ℕ → Outcome
-openedAs accepted mode azimuth = goes (running mode azimuth (record { flags = []; values = [] })) []
-openedAs (refused k) mode azimuth = stops k
+abbrev pub openedAs : Answer → Opening → Outcome
+openedAs accepted ω = goes (running ω nothing) []
+openedAs (refused k) ω = stops (k .number)
 
 abbrev pub freshOf : Sweep → Trace → List Reply
 freshOf none P = []
-freshOf (running mode azimuth T) P = fresh standard T P
+freshOf (running ω T) P = fresh standard T P
 
 abbrev pub takenAs : Answer → Sweep → Trace → Outcome
 takenAs accepted σ P = goes (longer σ P) (replyLines (freshOf σ P))
-takenAs (refused k) σ P = stops k
+takenAs (refused k) σ P = stops (k .number)
 
 abbrev pub restOf : Sweep → List Reply
 restOf none = []
-restOf (running mode azimuth T) = rest standard T
+restOf (running ω T) = rest standard T
 
 abbrev pub closedAs : Answer → Sweep → Outcome
 closedAs accepted σ = goes none (replyLines (restOf σ) ++ totalsLine (totalsOf σ))
-closedAs (refused k) σ = stops k
+closedAs (refused k) σ = stops (k .number)
 
--- what each frame makes of a sweep. The lent buffers have 72 bytes, enough for the 64 samples of a line, and 144: number 7 never holds.
-abbrev pub openedAt : ℕ → ℕ → Sweep → Outcome
-openedAt mode azimuth σ = openedAs (openAnswer mode azimuth) mode azimuth
+-- the buffer lent to a take: enough for the 64 samples of a line
+abbrev pub lineRoom : ℕ
+lineRoom = takeRoom 64
+
+-- what each frame makes of a sweep. With the lent buffers number 7 never holds.
+abbrev pub openedAt : Opening → Sweep → Outcome
+openedAt ω σ = openedAs (openAnswer ω) ω
 
 abbrev pub takenAt : Trace → Sweep → Outcome
-takenAt P σ = takenAs (takeAnswerAt σ P 72) σ P
+takenAt P σ = takenAs (takeAnswerAt σ P lineRoom) σ P
 
 abbrev pub closedAt : Sweep → Outcome
-closedAt σ = closedAs (closeAnswerAt σ 144) σ
+closedAt σ = closedAs (closeAnswerAt σ closeRoom) σ
 
 abbrev pub outcomeAt : Sweep → Reading → Outcome
-outcomeAt σ (opening mode azimuth) = openedAt mode azimuth σ
+outcomeAt σ (opening ω) = openedAt ω σ
 outcomeAt σ (samples P) = takenAt P σ
 outcomeAt σ closing = closedAt σ
 outcomeAt σ (unread k) = stops k

@@ -1,10 +1,11 @@
 -- What a line leaves in the processor and in the output.
-use Prim.Native.Nat.{ℕ, _+_, _≤_, _<_}
+use Prim.Native.Nat.{ℕ, _+_, _*_, _≤_, _<_}
 use mathlib.Core.Bool.{Bool, true, false}
 use mathlib.Core.List.{List}
 use mathlib.Core.Path.{_≡_}
 use lib.Dec.{leb}
 use lib.ListN.{length, take}
+use Rattle.rules.specs.Calls.{mostLeft}
 use Rattle.rules.specs.Samples.{Trace}
 use Rattle.rules.specs.Buffers.{over-at}
 use Rattle.processor.specs.declared.Processor.{Processor}
@@ -13,7 +14,7 @@ use Rattle.reading.specs.declared.Line.{Line}
 use Rattle.reading.specs.declared.Line.the-variants.{Frame as Framed, Refused}
 use Rattle.reading.specs.declared.Frame.{Frame}
 use Rattle.reading.specs.declared.Frame.the-variants.{Open, Samples, Close}
-use Rattle.frames.specs.Writing.{firstLines, totalsLine, refusalLine}
+use Rattle.frames.specs.Writing.{firstLines, totalsLine, refusalLine, replyLineSize, totalsLineSize}
 use Rattle.frames.specs.Post.{WritePost}
 use Rattle.rules.specs.declared.Totals.{Totals}
 use Rattle.calls.specs.declared.Answer.{Answer}
@@ -31,9 +32,13 @@ abbrev pub steppedBy : Outcome → Processor → ℕ → Stepped
 steppedBy (goes σ l) p at = record { step = Goes (at + length l); processor = processorOf σ }
 steppedBy (stops k) p at = record { step = Stops k (at + length (refusalLine k)); processor = p }
 
--- the room for what a line may print: eight replies of 39 bytes and the totals, 27 bytes
+-- the most that a line prints: the replies and the totals of a close
+abbrev pub lineMost : ℕ
+lineMost = mostLeft * replyLineSize + totalsLineSize
+
+-- the room for it
 abbrev pub hasRoom : ℕ → List ℕ → Bool
-hasRoom at b = leb (at + 339) (length b)
+hasRoom at b = leb (at + lineMost) (length b)
 
 -- without room nothing happens
 abbrev pub steppedAs : Bool → Outcome → Processor → ℕ → Stepped
@@ -98,7 +103,7 @@ pieceOf flags values = record { flags = flags; values = values }
 
 -- a frame, and the samples that came with it
 abbrev pub frameAt : Frame → List ℕ → List ℕ → Sweep → Outcome
-frameAt (Open mode azimuth) f v σ = openedAt mode azimuth σ
+frameAt (Open ω) f v σ = openedAt ω σ
 frameAt (Samples n) f v σ = takenAt (pieceOf (take n f) (take n v)) σ
 frameAt Close f v σ = closedAt σ
 
@@ -112,7 +117,7 @@ numberOf (Refused k) = k
 
 -- how many samples came with it
 abbrev pub countIn : Line → ℕ
-countIn (Framed (Open mode azimuth)) = 0
+countIn (Framed (Open ω)) = 0
 countIn (Framed (Samples n)) = n
 countIn (Framed Close) = 0
 countIn (Refused k) = 0

@@ -1,15 +1,22 @@
 // What is printed of an answer, and whether the survey goes on. `specs/Outcomes.antt` says what each kind of line is to make of it.
 ghost use Rattle.steps.specs.Post.{TakeShown, CloseShown, RestPost};
 use calls::Answer;
+use frames::REPLY_LINE;
+use frames::TOTALS_LINE;
 use frames::has_room;
 use frames::refusal_line;
 use frames::reply_lines;
 use frames::totals_line;
 use processor::Processor;
+use rules::MOST_LEFT;
+use rules::RECORD;
 use rules::Totals;
 
-// Eight replies of 39 bytes and the totals, 27 bytes: the most that a line prints.
-pub const MOST: usize = 339;
+// The most that a line prints: the replies of a close and the totals.
+pub const MOST: usize = MOST_LEFT * REPLY_LINE + TOTALS_LINE;
+
+// The bytes of the reply buffer for the 64 samples of a line: 4 replies.
+pub const LINE_ROOM: usize = RECORD * 4;
 
 // The survey goes on, or stops with the number of a refusal, and has printed up to a place in the buffer; or the buffer has no room for what a
 // line may print.

@@ -3,13 +3,15 @@ use Prim.Native.Nat.{ℕ, _+_, _-_, _*_, _/_, _≤_, _<_, min}
 use native.Mathlib.Omega.{arith}
 use mathlib.Core.Path.{_≡_, sym, ap, _∙_, subst}
 use mathlib.Core.Bool.{Bool, true}
-use mathlib.Core.List.{List, [], _++_, append-nil}
+use mathlib.Core.List.{List, _++_, append-nil}
 use lib.ListN.{length, getD, take, drop}
 use lib.Seq.{take-add}
 use borrow.Rule.Slice.PartMut.{midOf, putMid}
+use Rattle.rules.specs.declared.Opening.{Opening}
+use Rattle.rules.specs.Records.{recordSize}
 use Rattle.rules.specs.declared.Place.{Place}
 use Rattle.rules.specs.Lists.{All}
-use Rattle.rules.specs.Samples.{Trace}
+use Rattle.rules.specs.Samples.{Trace, nothing}
 use Rattle.places.specs.Places.{idle}
 use Rattle.processor.specs.declared.Processor.{Processor}
 use Rattle.processor.specs.declared.Progress.{Progress}
@@ -37,15 +39,15 @@ up-part a b l h =
     sym (take-add a (b - a) l) ∙ ap (λ (n : ℕ). take n l) z
 
 -- p is the processor of an opening
-abbrev Opens : Processor → ℕ → ℕ → Type 0
-Opens p mode azimuth = p ≡ runningProcessor mode azimuth (record { flags = []; values = [] })
+abbrev Opens : Processor → Opening → Type 0
+Opens p ω = p ≡ runningProcessor ω nothing
 
 -- r has the values of the first n ticks
 pub record KeptTo (p : Processor) (L : List ℕ) (n : ℕ) (r : List ℕ) : Type 0 where
-  pub is : (mode azimuth : ℕ) → Opens p mode azimuth → r ≡ recentOf (take n L)
+  pub is : (ω : Opening) → Opens p ω → r ≡ recentOf (take n L)
 
 kept-more : (p : Processor) (L : List ℕ) (from to : ℕ) (r r′ : List ℕ) → from ≤ to → KeptTo p L from r → KeepPost r (part from to L) r′ → KeptTo p L to r′
-kept-more p L from to r r′ h k q = record { is = λ mode azimuth e. q .result (take from L) (k .is mode azimuth e) ∙ ap recentOf (up-part from to L h) }
+kept-more p L from to r r′ h k q = record { is = λ ω e. q .result (take from L) (k .is ω e) ∙ ap recentOf (up-part from to L h) }
 
 -- with the values of the first i ticks the pieces up to there are taken; those of the first `kept` are at hand
 pub record Late (p : Processor) (T : Trace) (piece : ℕ) (b₀ : List ℕ) (y : Progress) (recent : List ℕ) (kept at i : ℕ) (b : List ℕ) : Type 0 where
@@ -62,7 +64,7 @@ module _ (p : Processor) (T : Trace) (piece : ℕ) (b₀ : List ℕ) (alike : le
           inside = h .inside;
           reach = h .reach;
           start = h .start;
-          result = λ mode azimuth e t. subst (λ (x : List ℕ). Taken mode azimuth (record { flags = take i (T .flags); values = take i (T .values) }) b₀ (arrivedAt p y x i at) b) (sym (k .is mode azimuth e)) (h .result mode azimuth e t);
+          result = λ ω e t. subst (λ (x : List ℕ). Taken ω (record { flags = take i (T .flags); values = take i (T .values) }) b₀ (arrivedAt p y x i at) b) (sym (k .is ω e)) (h .result ω e t);
         }
 
     by-trace : Takings p T piece b₀ y r at i b → Takings p T piece b₀ y (recentOf (take i (T .values))) at i b
@@ -72,12 +74,12 @@ module _ (p : Processor) (T : Trace) (piece : ℕ) (b₀ : List ℕ) (alike : le
           inside = h .inside;
           reach = h .reach;
           start = h .start;
-          result = λ mode azimuth e t. subst (λ (x : List ℕ). Taken mode azimuth (record { flags = take i (T .flags); values = take i (T .values) }) b₀ (arrivedAt p y x i at) b) (k .is mode azimuth e) (h .result mode azimuth e t);
+          result = λ ω e t. subst (λ (x : List ℕ). Taken ω (record { flags = take i (T .flags); values = take i (T .values) }) b₀ (arrivedAt p y x i at) b) (k .is ω e) (h .result ω e t);
         }
 
   pub late-start : (y : Progress) → y ≡ progressOf p → Late p T piece b₀ y (p .recent) 0 0 0 b₀
   late-start y is =
-      let k : KeptTo p (T .values) 0 (p .recent) = record { is = λ mode azimuth e. recent-of mode azimuth (record { flags = []; values = [] }) p e } in
+      let k : KeptTo p (T .values) 0 (p .recent) = record { is = λ ω e. recent-of ω nothing p e } in
       record { behind = omega arith; values = k; takings = by-trace y 0 0 b₀ (p .recent) k (takings-start p T piece b₀ alike y is) }
 
   module _ (y : Progress) (recent : List ℕ) (kept at i end : ℕ) (b : List ℕ) (h : Late p T piece b₀ y recent kept at i b) (more : i < length (T .flags))
@@ -100,7 +102,7 @@ module _ (p : Processor) (T : Trace) (piece : ℕ) (b₀ : List ℕ) (alike : le
     -- one that is fed
     pub late-fed : (old new : List ℕ) → KeepPost recent (part kept i (T .values)) old → KeepPost old (part i end (T .values)) new → (z : Progress) (m′ : List ℕ) (to : ℕ)
         → FeedPost y old i (part i end (T .flags)) (part i end (T .values)) (midOf at (length b - at) b) z m′
-        → to ≡ at + 18 * min (z .at / 18) ((length b - at) / 18) → length (putMid at (length b - at) b m′) ≡ length b
+        → to ≡ at + recordSize * min (z .at / recordSize) ((length b - at) / recordSize) → length (putMid at (length b - at) b m′) ≡ length b
         → Late p T piece b₀ (record { front = z .front; places = z .places; counts = z .counts; at = 0 }) new end to end (putMid at (length b - at) b m′)
     late-fed old new ko kn z m′ to post e l =
         let L = T .values in
@@ -115,7 +117,7 @@ module _ (p : Processor) (T : Trace) (piece : ℕ) (b₀ : List ℕ) (alike : le
         }
 
   pub late-end : (y : Progress) (recent : List ℕ) (kept at i n : ℕ) (b new : List ℕ) (r : Reached) → length (T .flags) ≤ i → n ≡ length (T .flags)
-      → KeepPost recent (part kept n (T .values)) new → r ≡ arrivedAt p y new n at → Late p T piece b₀ y recent kept at i b → TakeAllPost p T piece b₀ r b
+      → KeepPost recent (part kept n (T .values)) new → r ≡ arrivedAt p y new n at → Late p T piece b₀ y recent kept at i b → TakeAllPost p T b₀ r b
   late-end y recent kept at i n b new r l k q is h =
       let m : n ≡ i = omega (arith, h .takings .reach) in
       let v = kept-more p (T .values) kept n recent new (omega (arith, h .behind)) (h .values) q in

@@ -7,12 +7,15 @@ use mathlib.Core.Path.{_≡_, refl, sym, ap, _∙_, subst}
 use mathlib.Core.Bool.{Bool, true, false}
 use mathlib.Core.List.{List, [], _∷_, _++_}
 use lib.ListN.{length, getD, replicate, length-append, length-replicate}
+use Rattle.rules.specs.declared.Opening.{Opening}
+use Rattle.rules.specs.Records.{recordSize}
 use Rattle.rules.specs.declared.Place.{Place}
 use Rattle.rules.specs.declared.Reply.{Reply}
 use Rattle.rules.specs.Settings.{standard}
 use Rattle.rules.specs.Lists.{All}
 use Rattle.rules.specs.Samples.{Trace, _⧺_, A, P, N, M, odd}
 use Rattle.rules.specs.Calls.{takeRoom, fresh}
+use Rattle.rules.proofs.HandingOut.{fresh-most}
 use Rattle.packing.specs.declared.Planes.{Planes}
 use Rattle.plane.specs.Words.{HoldsPart}
 use Rattle.packing.specs.Packing.{PackedPart}
@@ -34,13 +37,13 @@ use Rattle.blocks.proofs.Quiet.{Quiet, quiet-is}
 use Rattle.blocks.proofs.Blank.{none-due-before, stays-law}
 use Rattle.blocks.proofs.Feeding.{Feeding, feed-start, feed-next, feed-end}
 use Rattle.pieces.proofs.Pieces.{enters-piece}
-use Rattle.processor.proofs.ProcessorLaws.{mode-of, azimuth-of, taken-of, front-of, recent-of, machine-of, four-of}
+use Rattle.processor.proofs.ProcessorLaws.{opening-of, taken-of, front-of, recent-of, machine-of, four-of}
 
 -- the piece P behind the trace T hands out nothing, and leaves all but the count of ticks and the kept values as it is
-pub record Rests (p : Processor) (mode azimuth : ℕ) (T P : Trace) : Type 0 where
+pub record Rests (p : Processor) (ω : Opening) (T P : Trace) : Type 0 where
   pub none-due : fresh standard T P ≡ []
-  pub processor : record { mode = p .mode; azimuth = p .azimuth; taken = p .taken + length (P .flags); front = p .front; recent = recentOf (T .values ++ P .values); places = p .places; counts = p .counts }
-      ≡ runningProcessor mode azimuth (T ⧺ P)
+  pub processor : record { opening = p .opening; taken = p .taken + length (P .flags); front = p .front; recent = recentOf (T .values ++ P .values); places = p .places; counts = p .counts }
+      ≡ runningProcessor ω (T ⧺ P)
 
 -- ---- one tick
 
@@ -82,13 +85,13 @@ module _ (o : Progress) (recent : List ℕ) (base : ℕ) (flags values b : List 
 
 -- ---- the take of such a piece
 
-no-replies : (l : List Reply) → 0 ≡ 18 * length l → l ≡ []
+no-replies : (l : List Reply) → 0 ≡ recordSize * length l → l ≡ []
 no-replies [] e = refl
 no-replies (r ∷ l) e = absurd (omega arith)
 
-module _ (p : Processor) (flags : List ℕ) (q : Quiet (p .front) (getD (p .places) 0 idle) (p .taken) flags) (mode azimuth : ℕ) (T : Trace) (values : List ℕ)
-    (made : Made (running mode azimuth T) p) (alike : length flags ≡ length values) (bytes : All (λ v. v ≤ 255) values) where
-  made-as : p ≡ runningProcessor mode azimuth T
+module _ (p : Processor) (flags : List ℕ) (q : Quiet (p .front) (getD (p .places) 0 idle) (p .taken) flags) (ω : Opening) (T : Trace) (values : List ℕ)
+    (made : Made (running ω T) p) (alike : length flags ≡ length values) (bytes : All (λ v. v ≤ 255) values) where
+  made-as : p ≡ runningProcessor ω T
   unfolding processorOf
   made-as = made .is
 
@@ -104,38 +107,37 @@ module _ (p : Processor) (flags : List ℕ) (q : Quiet (p .front) (getD (p .plac
       rests-law o (p .recent) (p .taken) flags values room (q .flagless) (q .words) (q .waits) .result T
       (enters-piece T o (p .recent) (p .taken) flags values room
       (record {
-        front = front-of mode azimuth T p made-as;
-        machine = machine-of mode azimuth T p made-as;
+        front = front-of ω T p made-as;
+        machine = machine-of ω T p made-as;
         place = refl;
-        kept = recent-of mode azimuth T p made-as;
-        ticks = sym (taken-of mode azimuth T p made-as);
+        kept = recent-of ω T p made-as;
+        ticks = sym (taken-of ω T p made-as);
         alike = made .sound .alike;
         alike-piece = alike;
         bytes = made .sound .bytes;
         bytes-piece = bytes;
         limit = q .limit;
-        room = omega (arith, length-replicate {A = ℕ} (takeRoom (length flags)) 0);
+        room = omega (arith, length-replicate {A = ℕ} (takeRoom (length flags)) 0, fresh-most standard T (record { flags = flags; values = values }));
       }))
 
-  rests : Rests p mode azimuth T (record { flags = flags; values = values })
+  rests : Rests p ω T (record { flags = flags; values = values })
   unfolding o runningProcessor
   rests =
-      let e1 = mode-of mode azimuth T p made-as in
-      let e2 = azimuth-of mode azimuth T p made-as in
-      let e3 : p .taken + length flags ≡ length (T .flags ++ flags) = omega (arith, taken-of mode azimuth T p made-as, length-append (T .flags) flags) in
+      let e1 = opening-of ω T p made-as in
+      let e3 : p .taken + length flags ≡ length (T .flags ++ flags) = omega (arith, taken-of ω T p made-as, length-append (T .flags) flags) in
       let e4 = fed .front in
-      let e6 = four-of mode azimuth T p made-as ∙ ap (λ (z : Machine). listed (z .places)) (fed .machine) in
+      let e6 = four-of ω T p made-as ∙ ap (λ (z : Machine). listed (z .places)) (fed .machine) in
       let e7 = ap (λ (z : Machine). z .counts) (fed .machine) in
       record {
         none-due = no-replies (fresh standard T (record { flags = flags; values = values })) (fed .place);
-        processor = λ i. record { mode = e1 i; azimuth = e2 i; taken = e3 i; front = e4 i; recent = recentOf (T .values ++ values); places = e6 i; counts = e7 i };
+        processor = λ i. record { opening = e1 i; taken = e3 i; front = e4 i; recent = recentOf (T .values ++ values); places = e6 i; counts = e7 i };
       }
 
 -- every piece of quiet flags is such a piece for a processor with these words, this first place, and so many ticks taken
 pub quiet-rests : (f : Front) (first : Place) (base : ℕ) (flags : List ℕ) → quiet f first base flags ≡ true
     → (p : Processor) → p .front ≡ f → getD (p .places) 0 idle ≡ first → p .taken ≡ base
-    → (mode azimuth : ℕ) (T : Trace) (values : List ℕ) → Made (running mode azimuth T) p → length flags ≡ length values → All (λ v. v ≤ 255) values
-    → Rests p mode azimuth T (record { flags = flags; values = values })
+    → (ω : Opening) (T : Trace) (values : List ℕ) → Made (running ω T) p → length flags ≡ length values → All (λ v. v ≤ 255) values
+    → Rests p ω T (record { flags = flags; values = values })
 quiet-rests f first base flags is p words place ticks =
     rests p flags
     (subst (λ (g : Front). Quiet g (getD (p .places) 0 idle) (p .taken) flags) (sym words)

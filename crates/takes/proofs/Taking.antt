@@ -1,22 +1,22 @@
 -- All pieces of a trace, one after the other: the buffer then holds the records of what is due.
 use Prim.Native.Nat.{ℕ, zero, suc, _+_, _-_, _*_, _/_, _≤_, _<_, min}
 use native.Mathlib.Omega.{arith}
-use mathlib.Core.Path.{_≡_, refl, sym, ap, ap₂, _∙_, subst}
-use mathlib.Core.Bool.{Bool, true, false, _||_, true≢false}
+use mathlib.Core.Path.{_≡_, refl, sym, ap, _∙_, subst}
+use mathlib.Core.Bool.{Bool, true}
 use mathlib.Core.List.{List, [], _∷_, _++_}
 use lib.ListN.{length, getD, take, drop, length-append, length-drop}
 use lib.Seq.{take-add, length-take-le, take-all}
-use borrow.Author.Tests.{eq-eqb, le-ltb}
 use borrow.Rule.Slice.PartMut.{midOf, putMid}
+use Rattle.rules.specs.declared.Opening.{Opening}
 use Rattle.rules.specs.declared.Reply.{Reply}
 use Rattle.rules.specs.declared.Place.{Place}
 use Rattle.rules.specs.Settings.{standard}
-use Rattle.rules.specs.Lists.{any, All}
-use Rattle.rules.specs.Samples.{Trace, _⧺_, bad, pieceLimit, sweepLimit}
+use Rattle.rules.specs.Lists.{All}
+use Rattle.rules.specs.Samples.{Trace, nothing, _⧺_}
 use Rattle.rules.specs.Buffers.{over, over-at}
 use Rattle.rules.specs.Machine.{after}
-use Rattle.rules.specs.Records.{records}
-use Rattle.rules.specs.Calls.{accepted, takeAnswer, takeRoom, handed, fresh}
+use Rattle.rules.specs.Records.{records, recordSize}
+use Rattle.rules.specs.Calls.{mostReplies, handed, fresh}
 use Rattle.rules.proofs.Buffers.{over-at-more}
 use Rattle.rules.proofs.Joining.{handed-fresh, handed-done, records-append, records-length}
 use Rattle.rules.proofs.HandingOut.{fresh-most}
@@ -25,15 +25,14 @@ use Rattle.places.specs.Places.{idle}
 use Rattle.processor.specs.declared.Progress.{Progress}
 use Rattle.processor.specs.Arrays.{listed, machineAt, processorAt, progressOf}
 use Rattle.processor.specs.State.{running, runningProcessor, processorOf, Made}
-use Rattle.calls.specs.Post.{takeAnswerAt}
 use Rattle.blocks.specs.Steps.{quiet}
 use Rattle.pieces.specs.Feeding.{FeedPost}
 use Rattle.front.specs.Post.{KeepPost}
 use Rattle.rules.proofs.Answers.{standard-allowed}
-use Rattle.processor.proofs.ProcessorLaws.{mode-of, azimuth-of, front-of, recent-of, machine-of}
+use Rattle.processor.proofs.ProcessorLaws.{opening-of, front-of, recent-of, machine-of}
 use Rattle.takes.specs.declared.Reached.{Reached}
 use Rattle.takes.specs.Post.{arrivedAt, Taken, Takes, TakeAllPost}
-use Rattle.takes.proofs.Pieces.{Reaches, TakesAt, q, piece-fed, piece-quiet}
+use Rattle.takes.proofs.Pieces.{Reaches, Fits, TakesAt, q, piece-fed, piece-quiet}
 
 -- ---- lists
 
@@ -47,24 +46,6 @@ all-drop zero l h = h
 all-drop (suc n) [] h = tt
 all-drop (suc n) (x ∷ l) h = all-drop n l (h .1)
 
-pub or-left : (a b : Bool) → (a || b) ≡ false → a ≡ false
-or-left false b e = refl
-or-left true b e = e
-
-pub or-right : (a b : Bool) → (a || b) ≡ false → b ≡ false
-or-right false b e = e
-or-right true b e = absurd (true≢false e)
-
-any-take : (p : ℕ → Bool) (n : ℕ) (l : List ℕ) → any p l ≡ false → any p (take n l) ≡ false
-any-take p zero l h = refl
-any-take p (suc n) [] h = refl
-any-take p (suc n) (x ∷ l) h = ap₂ (λ (a b : Bool). a || b) (or-left (p x) (any p l) h) (any-take p n l (or-right (p x) (any p l) h))
-
-any-drop : (p : ℕ → Bool) (n : ℕ) (l : List ℕ) → any p l ≡ false → any p (drop n l) ≡ false
-any-drop p zero l h = h
-any-drop p (suc n) [] h = refl
-any-drop p (suc n) (x ∷ l) h = any-drop p n l (or-right (p x) (any p l) h)
-
 -- ---- buffers
 
 over-start : (l b : List ℕ) → over l b ≡ over-at l 0 b
@@ -77,14 +58,11 @@ over-more l k b to e h = ap (over-at k to) (over-start l b) ∙ over-at-more l k
 
 -- ---- what is due of the first ticks
 
-abbrev nothing : Trace
-nothing = record { flags = []; values = [] }
-
 none-due : handed standard nothing ≡ []
 unfolding after
 none-due = handed-done standard standard-allowed nothing
 
-pub handed-most : (T : Trace) → length (handed standard T) ≤ 4 * ((length (T .flags) + 205) / 206)
+pub handed-most : (T : Trace) → length (handed standard T) ≤ mostReplies (length (T .flags))
 handed-most T =
     let e : handed standard T ≡ handed standard nothing ++ fresh standard nothing T = handed-fresh standard standard-allowed nothing T refl in
     omega (arith, ap length e, length-append (handed standard nothing) (fresh standard nothing T), ap length none-due, fresh-most standard nothing T)
@@ -109,6 +87,14 @@ up-all T n e a =
     let v : take n (T .values) ≡ T .values = take-all n (T .values) (omega (arith, e, a)) in
     λ j. record { flags = f j; values = v j }
 
+-- what is due of the first ticks is a beginning of what is due
+handed-first : (T : Trace) (e : ℕ) → e ≤ length (T .flags) → length (T .flags) ≡ length (T .values) → length (handed standard (upTo e T)) ≤ length (handed standard T)
+handed-first T e h alike =
+    let n = length (T .flags) in
+    let a : length (upTo e T .flags) ≡ length (upTo e T .values) = omega (arith, length-take-le e (T .flags) h, length-take-le e (T .values) (omega (arith, alike))) in
+    let z = ap (handed standard) (sym (up-all T n refl alike) ∙ sym (up-more T e n h)) ∙ handed-fresh standard standard-allowed (upTo e T) (between e n T) a in
+    omega (arith, ap length z, length-append (handed standard (upTo e T)) (fresh standard (upTo e T) (between e n T)))
+
 -- ---- one piece more
 
 pub record Takings (p : Processor) (T : Trace) (piece : ℕ) (b₀ : List ℕ) (y : Progress) (recent : List ℕ) (at i : ℕ) (b : List ℕ) : Type 0 where
@@ -116,8 +102,8 @@ pub record Takings (p : Processor) (T : Trace) (piece : ℕ) (b₀ : List ℕ) (
   pub inside : at ≤ length b₀
   pub reach : i ≤ length (T .flags)
   pub start : y .at ≡ 0
-  pub result : (mode azimuth : ℕ) → p ≡ runningProcessor mode azimuth (record { flags = []; values = [] }) → Takes mode T piece b₀
-      → Taken mode azimuth (upTo i T) b₀ (arrivedAt p y recent i at) b
+  pub result : (ω : Opening) → p ≡ runningProcessor ω nothing → Takes ω T b₀
+      → Taken ω (upTo i T) b₀ (arrivedAt p y recent i at) b
 
 module _ (p : Processor) (T : Trace) (piece : ℕ) (b₀ : List ℕ) (alike : length (T .flags) ≡ length (T .values)) where
   -- before the first piece
@@ -129,14 +115,13 @@ module _ (p : Processor) (T : Trace) (piece : ℕ) (b₀ : List ℕ) (alike : le
         inside = omega arith;
         reach = omega arith;
         start = ap (λ (z : Progress). z .at) is;
-        result = λ mode azimuth e t.
-            let e1 = mode-of mode azimuth nothing p e in
-            let e2 = azimuth-of mode azimuth nothing p e in
-            let e4 = ap (λ (z : Progress). z .front) is ∙ front-of mode azimuth nothing p e in
-            let e5 = recent-of mode azimuth nothing p e in
-            let e6 = ap machineAt is ∙ machine-of mode azimuth nothing p e in
+        result = λ ω e t.
+            let e1 = opening-of ω nothing p e in
+            let e4 = ap (λ (z : Progress). z .front) is ∙ front-of ω nothing p e in
+            let e5 = recent-of ω nothing p e in
+            let e6 = ap machineAt is ∙ machine-of ω nothing p e in
             record {
-              processor = λ i. record { mode = e1 i; azimuth = e2 i; taken = 0; front = e4 i; recent = e5 i; places = listed (e6 i .places); counts = e6 i .counts };
+              processor = λ i. record { opening = e1 i; taken = 0; front = e4 i; recent = e5 i; places = listed (e6 i .places); counts = e6 i .counts };
               place = omega (arith, ap length none-due);
               buffer = ap (λ (l : List Reply). over (records l) b₀) (sym none-due);
             };
@@ -161,11 +146,11 @@ module _ (p : Processor) (T : Trace) (piece : ℕ) (b₀ : List ℕ) (alike : le
 
     module _ (y′ : Progress) (kept : List ℕ) (to : ℕ) (b′ : List ℕ) (begun : y′ .at ≡ 0)
         (post : TakesAt (processorAt p y recent i) (between i end T) at b (arrivedAt p y′ kept end to) b′) where
-      module _ (mode azimuth : ℕ) (e : p ≡ runningProcessor mode azimuth (record { flags = []; values = [] })) (t : Takes mode T piece b₀) where
-        before : Taken mode azimuth (upTo i T) b₀ (arrivedAt p y recent i at) b
-        before = h .result mode azimuth e t
+      module _ (ω : Opening) (e : p ≡ runningProcessor ω nothing) (t : Takes ω T b₀) where
+        before : Taken ω (upTo i T) b₀ (arrivedAt p y recent i at) b
+        before = h .result ω e t
 
-        made : Made (running mode azimuth (upTo i T)) (processorAt p y recent i)
+        made : Made (running ω (upTo i T)) (processorAt p y recent i)
         unfolding processorOf
         made =
             record {
@@ -173,33 +158,29 @@ module _ (p : Processor) (T : Trace) (piece : ℕ) (b₀ : List ℕ) (alike : le
               sound = record { named = t .named; alike = alike-i; short = omega (arith, size-i, h .reach, t .short); bytes = all-take i (T .values) (t .bytes) };
             }
 
-        room : takeRoom (length (between i end T .flags)) ≤ length b - at
-        room = omega (arith, size-P, size-i, before .place, handed-most (upTo i T), h .size, t .room, here, h .reach, more, step)
-
-        accept : takeAnswerAt (running mode azimuth (upTo i T)) (between i end T) (length b - at) ≡ accepted
-        unfolding takeAnswerAt takeAnswer
-        accept =
-            rw (
-              eq-eqb (length (between i end T .flags)) (length (between i end T .values)) alike-P,
-              le-ltb pieceLimit (length (between i end T .flags)) (omega (arith, size-P, step, t .most)),
-              le-ltb sweepLimit (length (upTo i T .flags) + length (between i end T .flags)) (omega (arith, size-P, size-i, t .short, here, step)),
-              le-ltb (length b - at) (takeRoom (length (between i end T .flags))) room,
-              any-take bad (end - i) (drop i (T .flags)) (any-drop bad i (T .flags) (t .good)),
-            )
-
-        took : Reaches mode azimuth (upTo i T) (between i end T) at b (arrivedAt p y′ kept end to) b′
-        took = post .result mode azimuth (upTo i T) made accept
-
         joined : handed standard (upTo end T) ≡ handed standard (upTo i T) ++ fresh standard (upTo i T) (between i end T)
         joined =
             ap (handed standard) (sym (up-more T i end (omega (arith, step)))) ∙ handed-fresh standard standard-allowed (upTo i T) (between i end T) alike-i
 
-        now-taken : Taken mode azimuth (upTo end T) b₀ (arrivedAt p y′ kept end to) b′
+        fits : Fits (upTo i T) (between i end T) (length b - at)
+        fits =
+            record {
+              alike = alike-P;
+              limit = omega (arith, size-P, size-i, t .short, here, step);
+              records =
+                  omega
+                  (arith, before .place, h .size, t .room, ap length joined, length-append (handed standard (upTo i T)) (fresh standard (upTo i T) (between i end T)), handed-first T end here alike);
+            }
+
+        took : Reaches ω (upTo i T) (between i end T) at b (arrivedAt p y′ kept end to) b′
+        took = post .result ω (upTo i T) made fits
+
+        now-taken : Taken ω (upTo end T) b₀ (arrivedAt p y′ kept end to) b′
         now-taken =
             let H = handed standard (upTo i T) in
             let F = fresh standard (upTo i T) (between i end T) in
             record {
-              processor = took .processor ∙ ap (runningProcessor mode azimuth) (up-more T i end (omega (arith, step)));
+              processor = took .processor ∙ ap (runningProcessor ω) (up-more T i end (omega (arith, step)));
               place = omega (arith, took .place, before .place, ap length joined, length-append H F);
               buffer =
                   took .buffer ∙ ap (over-at (records F) at) (before .buffer)
@@ -222,7 +203,7 @@ module _ (p : Processor) (T : Trace) (piece : ℕ) (b₀ : List ℕ) (alike : le
       ticks = omega (arith, size-P, step)
 
       pub takings-fed : (z : Progress) (m′ : List ℕ) (to : ℕ) → FeedPost y recent i (between i end T .flags) (between i end T .values) (midOf at (length b - at) b) z m′
-          → to ≡ at + 18 * min (z .at / 18) ((length b - at) / 18) → length (putMid at (length b - at) b m′) ≡ length b
+          → to ≡ at + recordSize * min (z .at / recordSize) ((length b - at) / recordSize) → length (putMid at (length b - at) b m′) ≡ length b
           → Takings p T piece b₀ (record { front = z .front; places = z .places; counts = z .counts; at = 0 }) kept to end (putMid at (length b - at) b m′)
       unfolding q
       takings-fed z m′ to post e l =
@@ -237,15 +218,15 @@ module _ (p : Processor) (T : Trace) (piece : ℕ) (b₀ : List ℕ) (alike : le
           takings-next y kept at b (h .start) (piece-quiet p y recent i (between i end T) at b inside-b bytes-P end ticks kept keeps alike-P k) refl
 
   pub takings-end : (y : Progress) (recent : List ℕ) (at i n : ℕ) (b : List ℕ) (r : Reached) → length (T .flags) ≤ i → n ≡ length (T .flags)
-      → r ≡ arrivedAt p y recent n at → Takings p T piece b₀ y recent at i b → TakeAllPost p T piece b₀ r b
+      → r ≡ arrivedAt p y recent n at → Takings p T piece b₀ y recent at i b → TakeAllPost p T b₀ r b
   takings-end y recent at i n b r l k is h =
       let m : n ≡ i = omega (arith, h .reach) in
       let q : r ≡ arrivedAt p y recent i at = is ∙ ap (λ (z : ℕ). arrivedAt p y recent z at) m in
       record {
         inside = omega (arith, h .inside, ap (λ (z : Reached). z .at) q);
-        result = λ mode azimuth e t.
-            subst (λ (X : Trace). Taken mode azimuth X b₀ r b) (up-all T i (omega (arith, h .reach)) alike)
-            (subst (λ (z : Reached). Taken mode azimuth (upTo i T) b₀ z b) (sym q) (h .result mode azimuth e t));
+        result = λ ω e t.
+            subst (λ (X : Trace). Taken ω X b₀ r b) (up-all T i (omega (arith, h .reach)) alike)
+            (subst (λ (z : Reached). Taken ω (upTo i T) b₀ z b) (sym q) (h .result ω e t));
       }
 
 -- every value that a slice of bytes has is a byte

@@ -2,9 +2,11 @@
 ghost use Prim.Native.Nat.{_+_, _-_, _*_, _/_, _≤_, _<_, min};
 ghost use mathlib.Core.Path.{_≡_};
 ghost use lib.ListN.{length, getD};
+ghost use Rattle.rules.specs.Records.{recordSize};
 ghost use Rattle.places.specs.Places.{idle};
 ghost use Rattle.front.specs.Post.{KeepPost};
-ghost use Rattle.takes.specs.Post.{lent, part, arrivedAt, TakeAllPost};
+ghost use Rattle.rules.specs.Samples.{lent};
+ghost use Rattle.takes.specs.Post.{part, arrivedAt, TakeAllPost};
 use blocks::is_quiet;
 use front::values::keep;
 use pieces::feed;
@@ -13,6 +15,7 @@ use processor::Progress;
 use processor::moved;
 use processor::progress_of;
 use rules::Place;
+use rules::RECORD;
 
 // The processor after some pieces, and the place in the buffer behind the last record.
 pub struct Reached {
@@ -32,9 +35,9 @@ pub fn least(n: usize, most: usize) -> usize
 // The place in a buffer of n bytes behind the records up to `at` and those that `more` bytes hold.
 fn behind(at: usize, more: usize, n: usize) -> usize
     requires { ⌜ at ≤ n ⌝ }
-    ensures { λ r. ⌜ r ≡ at + 18 * min (more / 18) ((n - at) / 18) ⌝ }
+    ensures { λ r. ⌜ r ≡ at + recordSize * min (more / recordSize) ((n - at) / recordSize) ⌝ }
 {
-    at + 18 * least(more / 18, (n - at) / 18)
+    at + RECORD * least(more / RECORD, (n - at) / RECORD)
 }
 
 // The first of the four decoders.
@@ -69,7 +72,7 @@ fn keep_part(recent: &mut [u8; 256], values: &[u8], from: usize, to: usize)
 // behind it are kept once a piece needs them.
 pub fn take_all(p: Processor, flags: &[u8], values: &[u8], piece: usize, out: &mut [u8]) -> Reached
     requires { ⌜ (length (now flags) ≡ length (now values)) × (1 ≤ piece) × (length (now flags) ≤ 32768) ⌝ }
-    ensures { λ r. ⌜ TakeAllPost p (lent (now (flags .entry)) (now (values .entry))) piece (now (out .entry)) r (now (out .exit)) ⌝ }
+    ensures { λ r. ⌜ TakeAllPost p (lent (now (flags .entry)) (now (values .entry))) (now (out .entry)) r (now (out .exit)) ⌝ }
 {
     let n = flags.len();
     let mut y = progress_of(p);

@@ -35,6 +35,7 @@ use outcomes::put_answer;
 use outcomes::put_processor;
 use outcomes::put_totals;
 use processor::Processor;
+use rules::Opening;
 use rules::Totals;
 ghost use Prim.Native.Nat.{_≤_};
 ghost use lib.ListN.{length};
@@ -165,7 +166,10 @@ fn make_open(p: Processor, c: Call) -> Step {
         return give_up(p, b"an open is lent no buffer");
     }
     let mut out = [c.fill; OUTCOME];
-    let o = sweep::open(c.mode, c.azimuth);
+    let o = sweep::open(Opening {
+        mode: c.mode,
+        azimuth: c.azimuth,
+    });
     let answer = o.answer;
     let s = tell(c.shown, answer, no_totals(), o.processor, &mut out, 0);
     after_opening(p, answer, s)

@@ -194,7 +194,7 @@ fn put_settings(out: &mut [u8], mode: u8, azimuth: u16, taken: u32)
 pub fn put_processor(out: &mut [u8], p: Processor)
     requires { ⌜ 968 ≤ length (now out) ⌝ }
 {
-    put_settings(out, p.mode, p.azimuth, p.taken);
+    put_settings(out, p.opening.mode, p.opening.azimuth, p.taken);
     put_front(out, p.front);
     let recent = p.recent;
     put_recent(out, recent);

@@ -2,8 +2,9 @@
 ghost use Prim.Native.Nat.{_≤_};
 ghost use mathlib.Core.Path.{_≡_};
 ghost use lib.ListN.{length};
+ghost use Rattle.rules.specs.Records.{totalsSize};
 ghost use Rattle.refusals.specs.Whole.{wholeAnswer};
-ghost use Rattle.takes.specs.Post.{lent};
+ghost use Rattle.rules.specs.Samples.{lent};
 ghost use Rattle.whole.specs.Post.{CloseAtPost, WholePost};
 ghost use Rattle.rules.specs.Calls.{accepted};
 ghost use Rattle.calls.specs.Post.{openOf};
@@ -13,62 +14,65 @@ use calls::Answer;
 use frames::totals_bytes;
 use processor::Processor;
 use refusals::whole::whole_refusal;
+use rules::MOST_LEFT;
+use rules::Opening;
+use rules::RECORD;
+use rules::TOTALS;
 use rules::Totals;
-use sweep::close;
+use sweep::close_open;
 use sweep::open;
 use takes::least;
 use takes::take_all;
 
 // The close, whose records land behind those of the pieces, and the totals. Answers how many records there are in all.
 fn close_at(p: Processor, out: &mut [u8], at: usize, totals: &mut [u8]) -> usize
-    requires { ⌜ (at ≤ length (now out)) × (12 ≤ length (now totals)) ⌝ }
+    requires { ⌜ (at ≤ length (now out)) × (totalsSize ≤ length (now totals)) ⌝ }
     ensures { λ r. ⌜ CloseAtPost p at (now (out .entry)) (now (totals .entry)) r (now (out .exit)) (now (totals .exit)) ⌝ }
 {
-    let c = close(p, &mut out[at..]);
+    let c = close_open(p, &mut out[at..]);
     let t = c.totals;
     let answer = c.answer;
     put_totals(t, totals);
     match answer {
-        Answer::Refused(_) => at / 18,
-        Answer::Accepted(count) => at / 18 + least(count, 8),
+        Answer::Refused(_) => at / RECORD,
+        Answer::Accepted(count) => at / RECORD + least(count, MOST_LEFT),
     }
 }
 
 // The six totals, 2 bytes each, at the start of the buffer.
 fn put_totals(t: Totals, totals: &mut [u8])
-    requires { ⌜ 12 ≤ length (now totals) ⌝ }
+    requires { ⌜ totalsSize ≤ length (now totals) ⌝ }
     ensures { λ _. ⌜ now (totals .exit) ≡ over (totalsBytes t) (now (totals .entry)) ⌝ }
 {
     let bytes = totals_bytes(t);
     let mut i: usize = 0;
-    while i < 12 {
+    while i < TOTALS {
         totals[i] = bytes[i];
         i += 1;
     }
 }
 
 // The processor of an opening.
-fn opened(mode: u8, azimuth: u16) -> Processor
-    ensures { λ p. ⌜ p ≡ openOf mode azimuth .processor ⌝ }
+fn opened(opening: Opening) -> Processor
+    ensures { λ p. ⌜ p ≡ openOf opening .processor ⌝ }
 {
-    let o = open(mode, azimuth);
+    let o = open(opening);
     o.processor
 }
 
 // A whole sweep that nothing turns down. Answers how many records there are.
 fn swept(
-    mode: u8,
-    azimuth: u16,
+    opening: Opening,
     flags: &[u8],
     values: &[u8],
     piece: usize,
     out: &mut [u8],
     totals: &mut [u8],
 ) -> u32
-    requires { ⌜ wholeAnswer mode azimuth (lent (now flags) (now values)) piece (length (now out)) (length (now totals)) ≡ accepted ⌝ }
-    ensures { λ r. ⌜ WholePost mode azimuth (lent (now (flags .entry)) (now (values .entry))) piece (now (out .entry)) (now (totals .entry)) r (now (out .exit)) (now (totals .exit)) ⌝ }
+    requires { ⌜ wholeAnswer opening (lent (now flags) (now values)) piece (length (now out)) (length (now totals)) ≡ accepted ⌝ }
+    ensures { λ r. ⌜ WholePost opening (lent (now (flags .entry)) (now (values .entry))) piece (now (out .entry)) (now (totals .entry)) r (now (out .exit)) (now (totals .exit)) ⌝ }
 {
-    let t = take_all(opened(mode, azimuth), flags, values, piece, out);
+    let t = take_all(opened(opening), flags, values, piece, out);
     let count = close_at(t.processor, out, t.at, totals);
     (count % 65536) as u32
 }
@@ -88,11 +92,12 @@ pub extern "C" fn whole_sweep(
     out: &mut [u8],
     totals: &mut [u8],
 ) -> u32
-    ensures { λ r. ⌜ WholePost mode azimuth (lent (now (flags .entry)) (now (values .entry))) piece (now (out .entry)) (now (totals .entry)) r (now (out .exit)) (now (totals .exit)) ⌝ }
+    ensures { λ r. ⌜ WholePost (record { mode = mode; azimuth = azimuth }) (lent (now (flags .entry)) (now (values .entry))) piece (now (out .entry)) (now (totals .entry)) r (now (out .exit)) (now (totals .exit)) ⌝ }
 {
-    let number = whole_refusal(mode, azimuth, flags, values, piece, out, totals);
+    let opening = Opening { mode, azimuth };
+    let number = whole_refusal(opening, flags, values, piece, out, totals);
     if number != 0 {
         return 4294967295 - (number as u32 - 1);
     }
-    swept(mode, azimuth, flags, values, piece, out, totals)
+    swept(opening, flags, values, piece, out, totals)
 }

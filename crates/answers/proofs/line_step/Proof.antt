@@ -3,6 +3,7 @@ use Prim.Native.Nat.{_+_}
 use lib.ListN.{length}
 use mathlib.Core.Path.{refl, sym, _∙_}
 use borrow.Author.Tests.{not-true, not-false, leb-true}
+use Rattle.steps.specs.Post.{lineMost}
 use Rattle.steps.proofs.Answering.{full-post, flags-lent, values-lent, said-most, step-post}
 use borrow.Author.Needs.{needs}
 use Rattle.answers.proofs.line_step.Statement.{statement}
@@ -32,7 +33,7 @@ answer-line-requires : tie.Need-answer-line-requires
 answer-line-requires c κs =
     let read = c .before .before .before .read in
     let a = c .before .before .before .before .before .before .before .before .before .before .before .args in
-    (said-most (a .line .now) _ _ _ _ _ (read .ensures), omega (arith, said-most (a .line .now) _ _ _ _ _ (read .ensures), flags-lent (a .line .now) _ _ _ _ _ (read .ensures) refl), omega (arith, said-most (a .line .now) _ _ _ _ _ (read .ensures), values-lent (a .line .now) _ _ _ _ _ (read .ensures) refl), leb-true (a .at + 339) (length (a .out .now)) (sym (c .before .before .before .before .before .before .before .has-room .ensures) ∙ not-false _ (c .before .before .before .before .before .before .if1 .left)))
+    (said-most (a .line .now) _ _ _ _ _ (read .ensures), omega (arith, said-most (a .line .now) _ _ _ _ _ (read .ensures), flags-lent (a .line .now) _ _ _ _ _ (read .ensures) refl), omega (arith, said-most (a .line .now) _ _ _ _ _ (read .ensures), values-lent (a .line .now) _ _ _ _ _ (read .ensures) refl), leb-true (a .at + lineMost) (length (a .out .now)) (sym (c .before .before .before .before .before .before .before .has-room .ensures) ∙ not-false _ (c .before .before .before .before .before .before .if1 .left)))
 
 same-length-2 : tie.Need-same-length-2
 same-length-2 c = search needs

@@ -24,13 +24,13 @@ same-length c = search needs
 returns : tie.Need-returns
 returns c =
     let a = c .before .before .before .before .before .before .before .before .before .args in
-    open-refused (a .p) (a .at) (a .out .now) (c .before .before .before .before .before .before .before .before .before .pre) (a .mode) (a .azimuth) _ (c .before .before .before .before .before .before .before .«open» .ensures) _ (c .before .before .before .before .before .answer .given .1) _ _ (c .before .before .stop .ensures)
+    open-refused (a .p) (a .at) (a .out .now) (c .before .before .before .before .before .before .before .before .before .pre) (a .opening) _ (c .before .before .before .before .before .before .before .«open» .ensures) _ (c .before .before .before .before .before .answer .given .1) _ _ (c .before .before .stop .ensures)
 
 returns-2 : tie.Need-returns-2
 returns-2 c =
     let a = c .before .before .before .before .before .args in
     answer-as _ (a .p) (a .at) (a .out .now) _ _ _ (c .with-processor .ensures)
-    (open-accepted (a .p) (a .at) (a .out .now) (c .before .before .before .before .before .pre) (a .mode) (a .azimuth) _ (c .before .before .before .«open» .ensures) _ (c .before .enum-told .given .1))
+    (open-accepted (a .p) (a .at) (a .out .now) (c .before .before .before .before .before .pre) (a .opening) _ (c .before .before .before .«open» .ensures) _ (c .before .enum-told .given .1))
 
 pub opened-spec : {M : Type 1} → statement M
 opened-spec =

@@ -15,7 +15,7 @@ no-counts-requires c κs = search needs
 returns : tie.Need-returns
 returns c =
     let a = c .before .before .before .args in
-    begun-law _ _ _ (c .before .before .no-front .ensures) (c .before .no-places .ensures) (c .no-counts .ensures) (a .mode) (a .azimuth)
+    begun-law _ _ _ (c .before .before .no-front .ensures) (c .before .no-places .ensures) (c .no-counts .ensures) (a .opening)
 
 pub begun-spec : {M : Type 1} → statement M
 begun-spec = tie.close (tie.spec no-front-requires no-places-requires no-counts-requires returns)

@@ -8,9 +8,9 @@ all-four-requires c κs = search needs
 
 returns : tie.Need-returns
 returns c =
-    let a = c .before .before .before .before .args in
+    let a = c .before .before .before .before .before .args in
     let p = a .p in
-    λ i. record { mode = p .mode; azimuth = p .azimuth; taken = a .taken; front = a .y .front; recent = a .recent; places = c .all-four .ensures .1 .1 i; counts = a .y .counts }
+    λ i. record { opening = p .opening; taken = a .taken; front = a .y .front; recent = a .recent; places = c .all-four .ensures .1 .1 i; counts = a .y .counts }
 
 pub moved-spec : {M : Type 1} → statement M
 moved-spec = tie.close (tie.spec all-four-requires returns)

@@ -20,7 +20,7 @@ returns : tie.Need-returns
 returns c =
     let drain = c .before .before .before .drain in
     let a = c .before .before .before .before .before .before .before .before .before .before .args in
-    close-done (a .p) (a .out .now) (c .before .before .before .before .before .before .before .before .before .before .pre) _ (λ h. omega arith) _ (drain .result) _ (c .before .before .before .before .before .before .progress-of .ensures) (drain .ensures) _ (c .closed-after .ensures)
+    close-done (a .p) (a .out .now) _ (λ h. omega arith) _ (drain .result) _ (c .before .before .before .before .before .before .progress-of .ensures) (drain .ensures) _ (c .closed-after .ensures)
 
 pub close-open-spec : {M : Type 1} → statement M
 close-open-spec = tie.close (tie.spec progress-of-requires drain-requires closed-after-requires same-length returns)

@@ -1,7 +1,7 @@
 use Prim.Native.Nat.{_/_}
 use native.Mathlib.Omega.{arith}
 use mathlib.Core.Path.{ap}
-use Rattle.rules.proofs.Answers.{took}
+use Rattle.rules.specs.Records.{recordSize}
 use Rattle.calls.specs.declared.Answer.the-variants.{Accepted}
 use Rattle.processor.specs.declared.Processor.{Processor}
 use Rattle.sweep.proofs.Operations.{take-done}
@@ -19,13 +19,10 @@ keep-requires : tie.Need-keep-requires
 keep-requires c κs = search needs
 
 cast-taken : tie.Need-cast-taken
-cast-taken c = omega (arith, took _ (c .before .before .before .before .before .before .before .before .before .before .before .before .args .p .taken) (c .before .before .before .before .before .before .before .before .before .before .before .before .args .flags .now) (c .before .before .before .before .before .before .before .before .before .before .before .before .args .values .now) _ (c .before .before .before .before .before .before .before .before .before .before .before .before .pre) .piece)
+cast-taken c = omega (arith, c .before .before .before .before .before .before .before .before .before .before .before .before .pre)
 
 add-taken : tie.Need-add-taken
-add-taken c =
-    let a = c .before .before .before .before .before .before .before .before .before .before .before .before .before .args in
-    let t = took _ (a .p .taken) (a .flags .now) (a .values .now) _ (c .before .before .before .before .before .before .before .before .before .before .before .before .before .pre) .sweep in
-    omega (arith, t)
+add-taken c = omega (arith, c .before .before .before .before .before .before .before .before .before .before .before .before .before .pre)
 
 moved-requires : tie.Need-moved-requires
 moved-requires c κs = search needs
@@ -37,7 +34,7 @@ returns : tie.Need-returns
 returns c =
     let feed = c .before .before .before .before .before .before .before .feed in
     let a = c .before .before .before .before .before .before .before .before .before .before .before .before .before .before .before .args in
-    take-done (a .p) (a .flags .now) (a .values .now) (a .out .now) (c .before .before .before .before .before .before .before .before .before .before .before .before .before .before .before .pre) (λ i. omega (arith, c .before .before .before .before .before .before .before .before .before .before .before .before .before .shared-slice-known2 .given i)) _ (feed .result) _ _ (c .before .before .before .before .before .before .before .before .before .before .progress-of .ensures) (feed .ensures) (c .before .before .before .keep .ensures) _ (ap (λ (q : Processor). record { answer = Accepted (feed .result .at / 18); processor = q }) (c .moved .ensures))
+    take-done (a .p) (record { flags = a .flags .now; values = a .values .now }) (a .out .now) (c .before .before .before .before .before .before .before .before .before .before .before .before .before .before .before .pre) (λ i. omega (arith, c .before .before .before .before .before .before .before .before .before .before .before .before .before .shared-slice-known2 .given i)) _ (feed .result) _ _ (c .before .before .before .before .before .before .before .before .before .before .progress-of .ensures) (feed .ensures) (c .before .before .before .keep .ensures) _ (ap (λ (q : Processor). record { answer = Accepted (feed .result .at / recordSize); processor = q }) (c .moved .ensures))
 
 pub take-piece-spec : {M : Type 1} → statement M
 take-piece-spec = tie.close (tie.spec progress-of-requires feed-requires keep-requires cast-taken add-taken moved-requires same-length returns)

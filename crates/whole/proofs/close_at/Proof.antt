@@ -3,17 +3,17 @@ use borrow.Author.Needs.{needs}
 use Rattle.whole.proofs.close_at.Statement.{statement}
 use Rattle.whole.proofs.close_at.Tie as tie
 
-sub-close : tie.Need-sub-close
-sub-close c = search needs
+sub-close-open : tie.Need-sub-close-open
+sub-close-open c = search needs
 
-part-close-start : tie.Need-part-close-start
-part-close-start c = search needs
+part-close-open-start : tie.Need-part-close-open-start
+part-close-open-start c = search needs
 
-part-close-end : tie.Need-part-close-end
-part-close-end c = search needs
+part-close-open-end : tie.Need-part-close-open-end
+part-close-open-end c = search needs
 
-close-requires : tie.Need-close-requires
-close-requires c κs = search needs
+close-open-requires : tie.Need-close-open-requires
+close-open-requires c κs = search needs
 
 put-totals-requires : tie.Need-put-totals-requires
 put-totals-requires c κs = search needs
@@ -39,7 +39,7 @@ same-length-2 c = search needs
 returns : tie.Need-returns
 returns c =
     let a = c .before .before .before .before .before .before .before .before .before .before .before .before .before .args in
-    closed-refused (a .p) (a .at) (a .out .now) (c .before .before .before .before .before .before .before .before .before .before .before .before .before .pre .0) _ _ (c .before .before .before .before .before .before .before .before .before .close .ensures) (a .totals .now) _ _ (c .enum-told .given .1)
+    closed-refused (a .p) (a .at) (a .out .now) (c .before .before .before .before .before .before .before .before .before .before .before .before .before .pre .0) _ _ (c .before .before .before .before .before .before .before .before .before .close-open .ensures) (a .totals .now) _ _ (c .enum-told .given .1)
 
 same-length-3 : tie.Need-same-length-3
 same-length-3 c = search needs
@@ -50,16 +50,16 @@ same-length-4 c = search needs
 returns-2 : tie.Need-returns-2
 returns-2 c =
     let a = c .before .before .before .before .before .before .before .before .before .before .before .before .before .before .before .args in
-    closed-accepted (a .p) (a .at) (a .out .now) (c .before .before .before .before .before .before .before .before .before .before .before .before .before .before .before .pre .0) _ _ (c .before .before .before .before .before .before .before .before .before .before .before .close .ensures) (a .totals .now) _ (c .before .before .before .before .before .before .put-totals .ensures) _ _ (c .before .before .answer .given .1) (c .least .ensures)
+    closed-accepted (a .p) (a .at) (a .out .now) (c .before .before .before .before .before .before .before .before .before .before .before .before .before .before .before .pre .0) _ _ (c .before .before .before .before .before .before .before .before .before .before .before .close-open .ensures) (a .totals .now) _ (c .before .before .before .before .before .before .put-totals .ensures) _ _ (c .before .before .answer .given .1) (c .least .ensures)
 
 pub close-at-spec : {M : Type 1} → statement M
 close-at-spec =
     tie.close
     (tie.spec
-    sub-close
-    part-close-start
-    part-close-end
-    close-requires
+    sub-close-open
+    part-close-open-start
+    part-close-open-end
+    close-open-requires
     put-totals-requires
     enum-told
     enum-known-answer

@@ -1,3 +1,4 @@
+use Rattle.rules.specs.Records.{totalsSize}
 use Rattle.frames.proofs.Printing.{totals-size}
 use Rattle.frames.proofs.Filling.{Put, put-start, put-next, put-end}
 use Rattle.rules.specs.Buffers.{over}
@@ -11,10 +12,10 @@ use Rattle.whole.proofs.put_totals.Statement.{statement}
 use Rattle.whole.proofs.put_totals.Tie as tie
 
 abbrev Inv-loop : tie.InvT-loop
-Inv-loop totals₀ bytes i₀ totals i = Put bytes totals₀ totals i × (i ≤ 12)
+Inv-loop totals₀ bytes i₀ totals i = Put bytes totals₀ totals i × (i ≤ totalsSize)
 
 abbrev μ-loop : tie.MeasureT-loop
-μ-loop totals₀ bytes i₀ totals i = 12 - i
+μ-loop totals₀ bytes i₀ totals i = totalsSize - i
 
 totals-bytes-requires : tie.Need-totals-bytes-requires Inv-loop μ-loop
 totals-bytes-requires c κs = search needs

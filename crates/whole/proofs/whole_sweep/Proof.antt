@@ -26,7 +26,7 @@ same-length-2 c = search needs
 returns : tie.Need-returns
 returns c =
     let a = c .before .before .before .before .before .before .before .before .args in
-    whole-refused (a .mode) (a .azimuth) (record { flags = a .flags .now; values = a .values .now }) (a .piece) (a .out .now) (a .totals .now) _ (turned-down _ _ (c .before .whole-refusal .ensures) (c .if1 .taken)) (c .if1 .taken) (omega arith)
+    whole-refused (record { mode = a .mode; azimuth = a .azimuth }) (record { flags = a .flags .now; values = a .values .now }) (a .piece) (a .out .now) (a .totals .now) _ (turned-down _ _ (c .before .whole-refusal .ensures) (c .if1 .taken)) (c .if1 .taken) (omega arith)
 
 swept-requires : tie.Need-swept-requires
 swept-requires c κs = let-through _ _ (c .before .before .before .whole-refusal .ensures) (c .before .before .if1 .left)

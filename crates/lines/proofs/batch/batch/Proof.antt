@@ -1,4 +1,5 @@
 use borrow.Author.Needs.{needs}
+use Rattle.lines.specs.Batches.{batchMost}
 use Rattle.steps.proofs.Answering.{part-length}
 use native.Mathlib.Omega.{arith}
 use Rattle.lines.proofs.Batching.{part-short, batch-nothing, batch-post}
@@ -55,7 +56,7 @@ slice-aggregate-take-all-2 c = part-length _ _ (omega (arith, c .before .before 
 take-all-requires : tie.Need-take-all-requires
 take-all-requires c κs =
     let a = c .before .before .before .before .before .before .before .before .before .before .before .before .before .before .before .args in
-    (part-short _ _ 4096 (c .before .before .before .before .before .gather .ensures .most), leb-true (a .at + 3120) (length (a .out .now)) (sym (c .before .before .before .before .before .before .before .before .before .before .before .has-room .ensures) ∙ not-false _ (c .before .before .before .before .before .before .before .before .before .before .if1 .left)))
+    (part-short _ _ 4096 (c .before .before .before .before .before .gather .ensures .most), leb-true (a .at + batchMost) (length (a .out .now)) (sym (c .before .before .before .before .before .before .before .before .before .before .before .has-room .ensures) ∙ not-false _ (c .before .before .before .before .before .before .before .before .before .before .if1 .left)))
 
 same-length-3 : tie.Need-same-length-3
 same-length-3 c = search needs
@@ -63,7 +64,7 @@ same-length-3 c = search needs
 returns-3 : tie.Need-returns-3
 returns-3 c =
     let a = c .before .before .before .before .before .before .before .before .before .before .before .before .before .before .before .before .before .before .args in
-    batch-post (a .p) (a .input .now) (a .from) _ (a .at) (a .out .now) (leb-true (a .at + 3120) (length (a .out .now)) (sym (c .before .before .before .before .before .before .before .before .before .before .before .before .before .before .has-room .ensures) ∙ not-false _ (c .before .before .before .before .before .before .before .before .before .before .before .before .before .if1 .left))) _ (c .before .before .before .before .before .before .before .before .gather .ensures .all) _ _ (c .before .before .take-all .ensures)
+    batch-post (a .p) (a .input .now) (a .from) _ (a .at) (a .out .now) (leb-true (a .at + batchMost) (length (a .out .now)) (sym (c .before .before .before .before .before .before .before .before .before .before .before .before .before .before .has-room .ensures) ∙ not-false _ (c .before .before .before .before .before .before .before .before .before .before .before .before .before .if1 .left))) _ (c .before .before .before .before .before .before .before .before .gather .ensures .all) _ _ (c .before .before .take-all .ensures)
 
 pub batch-spec : {M : Type 1} → statement M
 batch-spec =
