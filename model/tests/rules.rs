@@ -386,7 +386,8 @@ fn where_f2_is_the_reference_its_m_is_the_confidence_of_position_14() {
     let opened = |f1: Edge, f2: Edge, open: &[Reply]| Reply::opening(&Bracket { f1, f2 }, open);
     let first = opened(edge(10, 200), edge(178, 200), &[]);
     let digits = |f2: Edge| hexadecimal(&record(&opened(edge(34, 80), f2, &[first])));
-    assert_eq!(digits(edge(202, 80)), "004420007fff020100504054000000000000");
+    let with_m = "004420007fff020100504054000000000000";
+    assert_eq!(digits(edge(202, 80)), with_m);
     let without_m = "004420005fff060100504054000000000000";
     assert_eq!(digits(edge_without_m(202, 80)), without_m);
 }
