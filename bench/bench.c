@@ -213,6 +213,7 @@ static unsigned compare_proved(void)
 {
     tally t = { whole_sweep, "differs", 0, 0 };
     compare_refusals(&t);
+    compare_openings(&t);
     compare_cuttings(&t);
     compare_scenes(&t);
     printf("results\t%u\t%u\n", t.passed, t.failed);

@@ -48,16 +48,23 @@ static void count(tally *t, const char *name, size_t n, size_t piece, const lent
     else t->failed++;
 }
 
-void compare_sweep(tally *t, const char *name, const uint8_t *flags, const uint8_t *values, size_t n, size_t piece)
+/* One sweep in pieces. Of its mode and azimuth nothing is handed out: the yardstick's is the same for all. */
+static void compare_opened(tally *t, const char *name, uint8_t mode, uint16_t azimuth,
+                           const uint8_t *flags, const uint8_t *values, size_t n, size_t piece)
 {
     static lent expected, found;
     fill(&expected);
     fill(&found);
     expected.returned = yardstick_sweep(1, 0, flags, n, values, n, piece, expected.out + AROUND, OUT_ROOM,
                                         expected.totals + AROUND, TOTALS);
-    found.returned = t->sweep(1, 0, flags, n, values, n, piece, found.out + AROUND, WHOLE_BYTES(n),
+    found.returned = t->sweep(mode, azimuth, flags, n, values, n, piece, found.out + AROUND, WHOLE_BYTES(n),
                               found.totals + AROUND, TOTALS);
     count(t, name, n, piece, &expected, &found);
+}
+
+void compare_sweep(tally *t, const char *name, const uint8_t *flags, const uint8_t *values, size_t n, size_t piece)
+{
+    compare_opened(t, name, 1, 0, flags, values, n, piece);
 }
 
 void compare_cuttings(tally *t)
@@ -74,6 +81,18 @@ void compare_cuttings(tally *t)
                 paint_trace(&scenes[i], seed, f, v, lengths[j]);
                 compare_sweep(t, scenes[i].name, f, v, lengths[j], pieces[k]);
             }
+}
+
+void compare_openings(tally *t)
+{
+    static uint8_t flags[1000], values[1000];
+    paint_trace(&scenes[3], 1, flags, values, 1000);
+    for (int mode = 1; mode <= 3; mode++)
+        for (int azimuth = 0; azimuth <= 16383; azimuth += 16383) {
+            char name[32];
+            snprintf(name, sizeof name, "mode %d, azimuth %d", mode, azimuth);
+            compare_opened(t, name, (uint8_t)mode, (uint16_t)azimuth, flags, values, 1000, 64);
+        }
 }
 
 /* ------------------------------------------------------------------ refusals */
@@ -102,19 +121,21 @@ static void expect_refusal(tally *t, int number, arguments a)
 }
 
 /* Changes an argument so that one refusal holds. The variants stand in the order of their numbers. */
-enum { VARIANTS = 10 };
+enum { VARIANTS = 12 };
 static int spoil(arguments *a, int variant)
 {
     switch (variant) {
     case 0: a->mode = 0; return 1;
     case 1: a->mode = 4; return 1;
-    case 2: a->azimuth = 16384; return 2;
-    case 3: a->values_len--; return 4;
-    case 4: a->piece = 0; return 5;
-    case 5: a->piece = ARP_PIECE + 1; return 5;
-    case 6: a->values_len += TICKS - a->flags_len; a->flags_len = TICKS; a->out_len = OUT_ROOM; return 6;
-    case 7: a->out_len = WHOLE_BYTES(a->flags_len) - 1; return 7;
-    case 8: a->totals_len = TOTALS - 1; return 7;
+    case 2: a->mode = 255; return 1;
+    case 3: a->azimuth = 16384; return 2;
+    case 4: a->azimuth = 65535; return 2;
+    case 5: a->values_len--; return 4;
+    case 6: a->piece = 0; return 5;
+    case 7: a->piece = ARP_PIECE + 1; return 5;
+    case 8: a->values_len += TICKS - a->flags_len; a->flags_len = TICKS; a->out_len = OUT_ROOM; return 6;
+    case 9: a->out_len = WHOLE_BYTES(a->flags_len) - 1; return 7;
+    case 10: a->totals_len = TOTALS - 1; return 7;
     default: a->flags = bad; return 8;
     }
 }

@@ -16,6 +16,9 @@ void compare_sweep(tally *t, const char *name, const uint8_t *flags, const uint8
 /* Traces of all scenes in many lengths and cuttings. */
 void compare_cuttings(tally *t);
 
+/* Every mode, with the first azimuth and the last: none is refused. */
+void compare_openings(tally *t);
+
 /* Every refusal, their order, and that nothing is written. */
 void compare_refusals(tally *t);
 

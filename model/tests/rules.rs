@@ -3,11 +3,12 @@
 mod drawing;
 
 use drawing::{edge, edge_ticks, edge_without_m, edges_at, Drawing};
-use model::brackets::bracket_at;
+use model::brackets::{bracket_at, Bracket};
 use model::edges::{edges, marks, runs, Edge, End, Kind, Run};
 use model::frames::hexadecimal;
 use model::machine::machine_on;
 use model::records::record;
+use model::replies::Reply;
 use model::samples::{is_bad, Trace, A, M};
 
 /// The totals and the records, as digits, of these edges.
@@ -243,6 +244,62 @@ fn a_phantom_is_removed_within_2_ticks_of_a_position() {
     assert_eq!(totals(37), [3, 3, 0, 0, 0, 0]);
 }
 
+/// The phantoms that a bracket at u removes, of a reply at 10 and a potential phantom at 22.
+fn phantoms_removed_at(u: i64) -> u16 {
+    let mut ticks = vec![10, 22, 178, 190, u, u + 168];
+    ticks.sort();
+    ticks.dedup();
+    totals_and_records(&edges_at(&ticks)).0[5]
+}
+
+/// Near position 0, at 15 and 16, and at 17 none is removed.
+#[test]
+fn a_phantom_is_removed_near_positions_1_to_14_and_nowhere_else() {
+    let removing = (2..=205).filter(|distance| phantoms_removed_at(22 + distance) == 1);
+    let near = (1..=14).flat_map(|k| 12 * k - 2..=12 * k + 2);
+    assert_eq!(removing.collect::<Vec<i64>>(), near.collect::<Vec<i64>>());
+}
+
+/// The totals of a reply at 10, a bracket with these two framing pulses, and a third bracket. Where
+/// the second begins at the first's F2, that is one pulse.
+fn totals_of_three(second: (i64, i64), third: i64) -> [u16; 6] {
+    let mut ticks = vec![10, second.0, second.1, third, third + 168];
+    if !(177..=179).contains(&second.0) {
+        ticks.push(178);
+    }
+    ticks.sort();
+    totals_and_records(&edges_at(&ticks)).0
+}
+
+/// The second bracket begins in the middle of a position, a tick before it or a tick behind; the
+/// third, which no reply covers, then removes it. In the middle of position 3 its F2 is at SPI, and
+/// it is garbled.
+#[test]
+fn a_reply_covered_at_any_of_positions_1_to_14_is_a_potential_phantom() {
+    for k in 1..=14 {
+        for (slip, further) in [(-1, 10), (0, 14), (1, 14)] {
+            let f1 = 10 + 12 * k + slip;
+            let f2 = f1 + 168 + slip;
+            let expected = match f2 {
+                214 => [3, 2, 0, 1, 0, 0],
+                _ => [3, 2, 0, 0, 0, 1],
+            };
+            let totals = totals_of_three((f1, f2), f1 + further);
+            assert_eq!(totals, expected, "position {k}, {slip}");
+        }
+    }
+}
+
+#[test]
+fn a_reply_two_ticks_beside_a_position_is_no_potential_phantom() {
+    for k in 1..=14 {
+        for f1 in [10 + 12 * k - 2, 10 + 12 * k + 2] {
+            let totals = totals_of_three((f1, f1 + 168), f1 + 12);
+            assert_eq!(totals, [3, 3, 0, 0, 0, 0], "F1 at {f1}");
+        }
+    }
+}
+
 #[test]
 fn a_phantom_is_removed_before_four_are_counted() {
     let edges = edges_at(&[10, 13, 16, 22, 34, 178, 181, 184, 190, 202]);
@@ -298,4 +355,39 @@ fn sixteen_values_are_counted() {
     let (totals, records) = totals_and_records(&edges);
     assert_eq!(totals, [2, 1, 0, 1, 0, 0]);
     assert_eq!(records, ["00147fff7fff011005004054000000000000"]);
+}
+
+/// The reference of the reply at 34 moves from 80 to 96, so that F2, heard at its tick, would not
+/// agree with it any more. F1 has no M.
+#[test]
+fn where_f2_is_the_reference_position_14_is_settled_at_the_opening() {
+    let edges = [
+        edge(10, 200),
+        edge_without_m(34, 80),
+        edge(46, 88),
+        edge(58, 92),
+        edge(70, 96),
+        edge(82, 100),
+        edge(178, 200),
+        edge(202, 80),
+    ];
+    let (totals, records) = totals_and_records(&edges);
+    assert_eq!(totals, [2, 2, 0, 0, 0, 0]);
+    let expected = [
+        "001420007fc1010201904069000000000000",
+        "0044200f77ff030501c84058000000000000",
+    ];
+    assert_eq!(records, expected);
+}
+
+/// The machine opens no such reply, as its bracket is garbled.
+#[test]
+fn where_f2_is_the_reference_its_m_is_the_confidence_of_position_14() {
+    let opened = |f1: Edge, f2: Edge, open: &[Reply]| Reply::opening(&Bracket { f1, f2 }, open);
+    let first = opened(edge(10, 200), edge(178, 200), &[]);
+    let digits = |f2: Edge| hexadecimal(&record(&opened(edge(34, 80), f2, &[first])));
+    let with_m = "004420007fff020100504054000000000000";
+    assert_eq!(digits(edge(202, 80)), with_m);
+    let without_m = "004420005fff060100504054000000000000";
+    assert_eq!(digits(edge_without_m(202, 80)), without_m);
 }
