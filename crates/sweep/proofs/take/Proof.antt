@@ -19,8 +19,8 @@ returns c =
 
 take-piece-requires : tie.Need-take-piece-requires
 take-piece-requires c κs =
-    let a = c .before .before .before .before .before .before .args in
-    omega (arith, took _ (a .p .taken) (record { flags = a .flags .now; values = a .values .now }) _ (let-through _ _ (c .before .before .take-refusal .ensures) (c .before .if1 .left)) .sweep)
+    let l = c .before .before .before .before .before .before .args in
+    omega (arith, took _ (l .p .taken) (record { flags = l .flags .now; values = l .values .now }) _ (let-through _ _ (c .before .before .take-refusal .ensures) (c .before .if1 .left)) .sweep)
 
 same-length : tie.Need-same-length
 same-length c = search needs
