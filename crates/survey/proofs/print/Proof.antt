@@ -6,10 +6,10 @@ use Rattle.survey.proofs.print.Statement.{statement}
 use Rattle.survey.proofs.print.Tie as tie
 
 abbrev Inv-loop : tie.InvT-loop
-Inv-loop bytes n from₀ turns₀ from turns = from ≤ length bytes
+Inv-loop input from complete bytes n done₀ turns₀ done turns = done ≤ length bytes
 
 abbrev μ-loop : tie.MeasureT-loop
-μ-loop bytes n from₀ turns₀ from turns = turns
+μ-loop input from complete bytes n done₀ turns₀ done turns = turns
 
 loop-holds : tie.Need-loop-holds Inv-loop μ-loop
 loop-holds c = omega arith
@@ -38,8 +38,8 @@ returns-2 c = search needs
 count-requires : tie.Need-count-requires Inv-loop μ-loop
 count-requires c κs = search needs
 
-add-from : tie.Need-add-from Inv-loop μ-loop
-add-from c = omega arith
+add-done : tie.Need-add-done Inv-loop μ-loop
+add-done c = omega arith
 
 sub-turns : tie.Need-sub-turns Inv-loop μ-loop
 sub-turns c = omega arith
@@ -68,7 +68,7 @@ print-spec =
     is-written-requires
     returns-2
     count-requires
-    add-from
+    add-done
     sub-turns
     loop-less
     loop-again
