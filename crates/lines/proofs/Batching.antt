@@ -6,8 +6,9 @@ use mathlib.Core.Logic.{_⊎_, inl, inr}
 use mathlib.Core.Bool.{Bool, true, false, not, cond, _&&_, _||_}
 use mathlib.Core.List.{List, [], _∷_, _++_, append-assoc, append-nil}
 use lib.Dec.{ltb, eqb}
-use lib.ListN.{length, getD, take, drop, set, length-append, take-append-drop}
-use lib.Seq.{length-take-le, take-suc, take-take, take-append-seam, take-at}
+use lib.ListN.{length, getD, take, drop, length-append}
+use borrow.Rule.Slice.PartMut.{midOf, postOf, putMid, mid-len, same-len-mid}
+use lib.Seq.{length-take-le, take-append-seam, take-append-add, take-append-le}
 use borrow.Author.Tests.{lt-leb, le-leb, eq-eqb, le-ltb}
 use Rattle.rules.specs.declared.Reply.{Reply}
 use Rattle.rules.specs.Settings.{standard}
@@ -17,7 +18,7 @@ use Rattle.rules.specs.Buffers.{over, over-at}
 use Rattle.rules.specs.Calls.{Answer, accepted, refused, takeAnswer, takeRoom, fresh, handed}
 use Rattle.rules.proofs.Truth.{impossible, or-left, or-right}
 use Rattle.rules.proofs.ListLaws.{all-append}
-use Rattle.rules.proofs.Buffers.{put-one, over-at-nil}
+use Rattle.rules.proofs.Buffers.{over-at-nil}
 use Rattle.rules.proofs.Joining.{handed-fresh, append-same, fresh-join}
 use Rattle.rules.proofs.HandingOut.{fresh-most}
 use Rattle.calls.specs.declared.Answer.the-variants.{Accepted, Refused}
@@ -32,7 +33,6 @@ use Rattle.frames.specs.Writing.{replyLine, replyLines, firstLines}
 use Rattle.reading.specs.Post.{lineOf, flagsAfter, valuesAfter, ReadPost}
 use Rattle.frames.specs.Post.{WritePost}
 use Rattle.reading.proofs.Sizes.{Sized, reading-sized}
-use Rattle.hexadecimal.proofs.Parts.{over-at-length, Putting, putting-start, putting-next}
 use Rattle.lines.specs.declared.batch.Gathering.{Gathering}
 use Rattle.lines.specs.declared.batch.Batched.{Batched}
 use Rattle.lines.specs.declared.scan.Scan.the-variants.{Rest}
@@ -42,7 +42,7 @@ use Rattle.steps.specs.Post.{pieceOf, countIn}
 use Rattle.lines.specs.Survey.{linesIn, further, surveyed}
 use Rattle.lines.specs.Post.{Scans}
 use Rattle.lines.specs.Batches.{beginsSamples, samplesIn, AddPost, Takes, Gathered, GatherPost, batchAs, printedAs, TakeAllPost, BatchPost}
-use Rattle.steps.proofs.Answering.{Wrote, write-inside, flags-lent, values-lent, said-most, turned-down, given-back, was-accepted, went-on, replies-wrote}
+use Rattle.steps.proofs.Answering.{Wrote, write-inside, said-most, turned-down, given-back, was-accepted, went-on, replies-wrote}
 use Rattle.lines.proofs.Scanning.{good-take, part, survey-first}
 
 -- ---- the first two characters
@@ -54,42 +54,13 @@ module _ (input : List ℕ) (from : ℕ) where
   pub begins-long : from + 2 ≤ length input → (eqb (getD input from 0) 48 && eqb (getD input (from + 1) 0) 50) ≡ beginsSamples input from
   begins-long h = rw (le-leb (from + 2) (length input) h)
 
--- ---- bytes put behind others
-
-abbrev pub firstOnes : List ℕ → ℕ → List ℕ
-firstOnes l i = take i l
-
-module _ (l : List ℕ) (k : ℕ) (short : k ≤ length l) (n : ℕ) (b₀ : List ℕ) (room : n + k ≤ length b₀) where
-  pub append-start : Putting (firstOnes l) k n b₀ b₀ 0
-  append-start = putting-start (firstOnes l) k n b₀ refl
-
-  pub append-next : (b : List ℕ) (i : ℕ) → i < k → Putting (firstOnes l) k n b₀ b i → Putting (firstOnes l) k n b₀ (set b (n + i) (getD l i 0)) (i + 1)
-  append-next b i h s =
-      putting-next (firstOnes l) k n b₀ b (set b (n + i) (getD l i 0)) (getD l i 0 ∷ []) i (n + i)
-      (ap (λ (j : ℕ). take j l) {x = i + 1} {y = suc i} (omega arith) ∙ take-suc l i 0 (omega arith))
-      (omega (arith, length-take-le i l (omega arith))) (omega (arith, h)) h (put-one b (n + i) (getD l i 0) (omega (arith, s .size))) s
-
-  pub append-end : (b : List ℕ) (i : ℕ) → k ≤ i → Putting (firstOnes l) k n b₀ b i → b ≡ over-at (take k l) n b₀
-  append-end b i h s = s .is ∙ ap (λ (j : ℕ). over-at (take j l) n b₀) {x = i} {y = k} (omega (arith, h, s .most))
-
--- the bytes before a place, and the first of those put there
-behind-over : (l b : List ℕ) (n k : ℕ) → n ≤ length b → k ≤ length l → take (n + k) (over-at l n b) ≡ take n b ++ take k l
-unfolding over-at
-behind-over l b n k h m =
-    ap (take (n + k))
-    (ap (λ (x : List ℕ). (take n b ++ x) ++ drop (n + length l) b) (sym (take-append-drop k l))
-    ∙ ap (λ (x : List ℕ). x ++ drop (n + length l) b) (sym (append-assoc (take n b) (take k l) (drop k l)))
-    ∙ append-assoc (take n b ++ take k l) (drop k l) (drop (n + length l) b))
-    ∙ take-at (take n b ++ take k l) (drop k l ++ drop (n + length l) b) (n + k)
-    (length-append (take n b) (take k l) ∙ omega (arith, length-take-le n b h, length-take-le k l m))
-
 -- ---- the samples of a line
 
 first-over : (l b : List ℕ) → take (length l) (over l b) ≡ l
 unfolding over
 first-over l b = take-append-seam l (drop (length l) b)
 
-module _ (n : ℕ) (f₀ v₀ f v : List ℕ) (flags values : List ℕ) where
+module _ (f₀ v₀ : List ℕ) where
   added : (x : Reading) → Sized x → take (countIn (lineOf x)) (flagsAfter x f₀) ≡ samplesIn x .flags
   added (opening mode azimuth) s = refl
   added (samples P) s = first-over (P .flags) f₀
@@ -102,26 +73,40 @@ module _ (n : ℕ) (f₀ v₀ f v : List ℕ) (flags values : List ℕ) where
   added-values closing s = refl
   added-values (unread k) s = refl
 
-  counted : (x : Reading) → countIn (lineOf x) ≡ length (samplesIn x .flags)
-  counted (opening mode azimuth) = refl
-  counted (samples P) = refl
-  counted closing = refl
-  counted (unread k) = refl
+counted : (x : Reading) → countIn (lineOf x) ≡ length (samplesIn x .flags)
+counted (opening mode azimuth) = refl
+counted (samples P) = refl
+counted closing = refl
+counted (unread k) = refl
 
-  pub add-post : (line : List ℕ) (said : Line) → ReadPost line f₀ v₀ said f v → length f₀ ≡ 64 → length v₀ ≡ 64 → n + 64 ≤ length flags → n + 64 ≤ length values
-      → (k : ℕ) → k ≡ countIn said → (flags′ values′ : List ℕ) → flags′ ≡ over-at (take 64 f) n flags → values′ ≡ over-at (take 64 v) n values
-      → AddPost line n flags values k flags′ values′
-  add-post line said r f-size v-size f-room v-room k e flags′ values′ p q =
+-- a line's samples land behind those that are there, in the part of the buffer from place n on
+behind-put : (n k : ℕ) (b part l : List ℕ) → n + k ≤ length b → k ≤ length part → take k part ≡ l → take (n + k) (putMid n (length b - n) b part) ≡ take n b ++ l
+behind-put n k b part l h m e =
+    ap (λ (x : ℕ). take (x + k) (putMid n (length b - n) b part)) (sym (length-take-le n b (omega arith)))
+    ∙ take-append-add (take n b) (part ++ postOf n (length b - n) b) k
+    ∙ ap (λ (x : List ℕ). take n b ++ x) (take-append-le k part (postOf n (length b - n) b) m ∙ e)
+
+module _ (line : List ℕ) (n : ℕ) (flags values : List ℕ) (f-room : n + 64 ≤ length flags) (v-room : n + 64 ≤ length values) where
+  abbrev f₀ : List ℕ
+  f₀ = midOf n (length flags - n) flags
+
+  abbrev v₀ : List ℕ
+  v₀ = midOf n (length values - n) values
+
+  pub add-room : (b : List ℕ) → n + 64 ≤ length b → 64 ≤ length (midOf n (length b - n) b)
+  add-room b h = omega (arith, mid-len n (length b) b (omega arith))
+
+  pub add-post : (said : Line) (f v : List ℕ) → ReadPost line f₀ v₀ said f v → length f ≡ length f₀ → length v ≡ length v₀ → (k : ℕ) → k ≡ countIn said
+      → AddPost line n flags values k (putMid n (length flags - n) flags f) (putMid n (length values - n) values v)
+  add-post said f v r f-size v-size k e =
       record {
         count = count ∙ counted (reading line);
-        flagRoom = ap length p ∙ over-at-length (take 64 f) n flags (omega (arith, f-long));
-        valueRoom = ap length q ∙ over-at-length (take 64 v) n values (omega (arith, v-long));
-        flagBytes =
-            ap (take (n + k)) p ∙ behind-over (take 64 f) flags n k (omega arith) (omega (arith, f-long, few))
-            ∙ ap (λ (l : List ℕ). take n flags ++ l) (take-take k 64 f few ∙ ap₂ take count (r .flagBytes) ∙ added (reading line) (reading-sized line));
-        valueBytes =
-            ap (take (n + k)) q ∙ behind-over (take 64 v) values n k (omega arith) (omega (arith, v-long, few))
-            ∙ ap (λ (l : List ℕ). take n values ++ l) (take-take k 64 v few ∙ ap₂ take count (r .valueBytes) ∙ added-values (reading line) (reading-sized line));
+        flagRoom = same-len-mid n (length flags - n) flags f f-size;
+        valueRoom = same-len-mid n (length values - n) values v v-size;
+        flagBytes = behind-put n k flags f (samplesIn (reading line) .flags) (omega (arith, few)) (omega (arith, few, f-size, add-room flags f-room))
+            (ap₂ take count (r .flagBytes) ∙ added f₀ v₀ (reading line) (reading-sized line));
+        valueBytes = behind-put n k values v (samplesIn (reading line) .values) (omega (arith, few)) (omega (arith, few, v-size, add-room values v-room))
+            (ap₂ take count (r .valueBytes) ∙ added-values f₀ v₀ (reading line) (reading-sized line));
       }
     where
       count : k ≡ countIn (lineOf (reading line))
@@ -129,12 +114,6 @@ module _ (n : ℕ) (f₀ v₀ f v : List ℕ) (flags values : List ℕ) where
 
       few : k ≤ 64
       few = omega (arith, e, said-most line f₀ v₀ said f v r)
-
-      f-long : length (take 64 f) ≡ 64
-      f-long = length-take-le 64 f (omega (arith, flags-lent line f₀ v₀ said f v r f-size))
-
-      v-long : length (take 64 v) ≡ 64
-      v-long = length-take-le 64 v (omega (arith, values-lent line f₀ v₀ said f v r v-size))
 
 -- ---- a sweep that takes two traces end to end
 

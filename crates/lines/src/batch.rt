@@ -1,8 +1,7 @@
 // Lines of samples, as many as there are one after the other, are taken as one piece of up to 4,096 ticks. What they print is the same.
 ghost use Prim.Native.Nat.{_+_, _≤_};
 ghost use mathlib.Core.Path.{_≡_};
-ghost use lib.ListN.{length, take};
-ghost use Rattle.rules.specs.Buffers.{over-at};
+ghost use lib.ListN.{length};
 ghost use Rattle.steps.specs.Post.{countIn, pieceOf};
 ghost use Rattle.lines.specs.Batches.{beginsSamples, AddPost, GatherPost, TakeAllPost, BatchPost};
 use calls::Answer;
@@ -32,18 +31,6 @@ pub struct Batched {
     pub at: usize,
 }
 
-// 64 bytes, from place n of a buffer on.
-fn append(bytes: &[u8], all: &mut [u8], n: usize)
-    requires { ⌜ (64 ≤ length (now bytes)) × (n + 64 ≤ length (now all)) ⌝ }
-    ensures { λ _. ⌜ now (all .exit) ≡ over-at (take 64 (now (bytes .entry))) n (now (all .entry)) ⌝ }
-{
-    let mut i: usize = 0;
-    while i < 64 {
-        all[n + i] = bytes[i];
-        i += 1;
-    }
-}
-
 fn count_in(line: Line) -> usize
     ensures { λ r. ⌜ r ≡ countIn line ⌝ }
 {
@@ -63,13 +50,8 @@ fn add_samples(line: &[u8], flags: &mut [u8], values: &mut [u8], n: usize) -> us
     requires { ⌜ (n + 64 ≤ length (now flags)) × (n + 64 ≤ length (now values)) ⌝ }
     ensures { λ r. ⌜ AddPost (now (line .entry)) n (now (flags .entry)) (now (values .entry)) r (now (flags .exit)) (now (values .exit)) ⌝ }
 {
-    let mut f = [0u8; 64];
-    let mut v = [0u8; 64];
-    let said = read(line, &mut f, &mut v);
-    let k = count_in(said);
-    append(&f, flags, n);
-    append(&v, values, n);
-    k
+    let said = read(line, &mut flags[n..], &mut values[n..]);
+    count_in(said)
 }
 
 // The samples of the lines from a place on, up to the first that says something else.
