@@ -1,5 +1,5 @@
 -- Lines of samples taken as one piece: the sweep takes the piece if and only if it takes the lines, and the replies are the same.
-use Prim.Native.Nat.{ℕ, zero, suc, _+_, _-_, _*_, _≤_, _<_}
+use Prim.Native.Nat.{ℕ, zero, suc, _+_, _-_, _*_, _/_, _≤_, _<_}
 use native.Mathlib.Omega.{arith}
 use mathlib.Core.Path.{_≡_, refl, sym, ap, ap₂, _∙_, subst}
 use mathlib.Core.Logic.{_⊎_, inl, inr}
@@ -41,9 +41,10 @@ use Rattle.steps.specs.Outcomes.{Outcome, goes, takenAs, freshOf, outcomeAt, li
 use Rattle.steps.specs.Post.{pieceOf, countIn}
 use Rattle.lines.specs.Survey.{linesIn, further, surveyed}
 use Rattle.lines.specs.Post.{Scans}
-use Rattle.lines.specs.Batches.{beginsSamples, samplesIn, AddPost, Takes, Gathered, GatherPost, batchAs, printedAs, TakeAllPost, BatchPost}
+use Rattle.lines.specs.Batches.{beginsSamples, samplesIn, AddPost, Takes, Gathered, Parts, GatherPost, batchAs, printedAs, TakeAllPost, BatchPost, PartPost}
 use Rattle.steps.proofs.Answering.{Wrote, write-inside, said-most, turned-down, given-back, was-accepted, went-on, replies-wrote}
-use Rattle.lines.proofs.Scanning.{good-take, part, survey-first}
+use Rattle.lines.proofs.Scanning.{good-take, part, survey-first, Scanning, scanning-start, scanning-batch}
+use Rattle.lines.proofs.Laying.{laid-none, parts-more, Left, left-start, Next, next-line}
 
 -- ---- the first two characters
 
@@ -236,16 +237,24 @@ module _ (input : List ℕ) (from i to : ℕ) (T : Trace) (g : Gathered input fr
   line-more closing e z h = absurd (omega arith)
   line-more (unread k) e z h = absurd (omega arith)
 
+-- a line that adds samples says these
+samples-said : (x : Reading) → 0 < length (samplesIn x .flags) → x ≡ samples (samplesIn x)
+samples-said (opening mode azimuth) h = absurd (omega arith)
+samples-said (samples P) h = refl
+samples-said closing h = absurd (omega arith)
+samples-said (unread k) h = absurd (omega arith)
+
 -- n samples are gathered, from the lines up to place i
 pub record SoFar (input : List ℕ) (from : ℕ) (flags₀ values₀ flags values : List ℕ) (i n : ℕ) : Type 0 where
   pub most : n ≤ 4096
   pub flag-room : length flags ≡ length flags₀
   pub value-room : length values ≡ length values₀
   pub all : Gathered input from i (pieceOf (take n flags) (take n values))
+  pub parts : Parts input from i (take n flags) (take n values)
 
 module _ (input : List ℕ) (from : ℕ) (flags₀ values₀ : List ℕ) where
   pub so-far-start : SoFar input from flags₀ values₀ flags₀ values₀ from 0
-  so-far-start = record { most = omega arith; flag-room = refl; value-room = refl; all = gathered-none input from }
+  so-far-start = record { most = omega arith; flag-room = refl; value-room = refl; all = gathered-none input from; parts = laid-none input from }
 
   module _ (flags values : List ℕ) (i n : ℕ) (h : SoFar input from flags₀ values₀ flags values i n) where
     pub so-far-end : (r : Gathering) → r .end ≡ i → r .n ≡ n → GatherPost input from r flags values
@@ -254,6 +263,8 @@ module _ (input : List ℕ) (from : ℕ) (flags₀ values₀ : List ℕ) where
           most = omega (arith, f, h .most);
           all = subst (λ (k : ℕ). Gathered input from (r .end) (pieceOf (take k flags) (take k values))) (sym f)
               (subst (λ (k : ℕ). Gathered input from k (pieceOf (take n flags) (take n values))) (sym e) (h .all));
+          parts = subst (λ (k : ℕ). Parts input from (r .end) (take k flags) (take k values)) (sym f)
+              (subst (λ (k : ℕ). Parts input from k (take n flags) (take n values)) (sym e) (h .parts));
         }
 
     module _ (to : ℕ) (k : ℕ) (flags′ values′ : List ℕ) (p : AddPost (part input i to) n flags values k flags′ values′) where
@@ -287,6 +298,7 @@ module _ (input : List ℕ) (from : ℕ) (flags₀ values₀ : List ℕ) where
             flag-room = p .flagRoom ∙ h .flag-room;
             value-room = p .valueRoom ∙ h .value-room;
             all = subst (Gathered input from i) (sym (ap₂ pieceOf flags-same values-same)) (h .all);
+            parts = subst (λ (x : List ℕ). Parts input from i x (take n values′)) (sym flags-same) (subst (Parts input from i (take n flags)) (sym values-same) (h .parts));
           }
         where
           flags-same : take n flags′ ≡ take n flags
@@ -306,6 +318,9 @@ module _ (input : List ℕ) (from : ℕ) (flags₀ values₀ : List ℕ) where
             value-room = p .valueRoom ∙ h .value-room;
             all = subst (Gathered input from to) (sym (ap₂ pieceOf (p .flagBytes) (p .valueBytes)))
                 (line-more input from i to (pieceOf (take n flags) (take n values)) (h .all) line read-here refl (reading-sized (part input i to)) (omega (arith, p .count, d)));
+            parts = subst (λ (x : List ℕ). Parts input from to x (take (n + k) values′)) (sym (p .flagBytes))
+                (subst (Parts input from to (take n flags ++ samplesIn read-here .flags)) (sym (p .valueBytes))
+                (parts-more input from i (take n flags) (take n values) (h .parts) to (samplesIn read-here) line (samples-said read-here (omega (arith, p .count, d)))));
           }
 
 -- ---- the piece
@@ -409,3 +424,94 @@ module _ (p : Processor) (input : List ℕ) (from to at : ℕ) (b : List ℕ) (r
       reaches : from ≤ length input → (r .from ≡ from) ⊎ (r .from ≡ to) → r .from ≤ length input
       reaches h (inl e) = omega (arith, e, h)
       reaches h (inr e) = omega (arith, e, g .reach h)
+
+-- ---- one piece, or line after line
+
+pub part-nothing : (p : Processor) (T : Trace) (from to at : ℕ) (b : List ℕ) → PartPost p T from to at b (record { processor = p; from = from; at = at }) b
+part-nothing p T from to at b = record { either = inl refl; post = λ input g. batch-nothing p input from at b }
+
+pub part-taken : (p : Processor) (T : Trace) (from to at : ℕ) (b : List ℕ) → at + 3120 ≤ length b → (r : Batched) (b′ : List ℕ) → TakeAllPost p T from to at b r b′ → PartPost p T from to at b r b′
+part-taken p T from to at b room r b′ h =
+    record { either = h .either; post = λ input g. batch-post p input from to at b room T g r b′ h }
+
+-- the lines up to place i are carried out, and the samples from place a on are those of the others
+pub record Going (p : Processor) (input : List ℕ) (from to at : ℕ) (flags values b₀ : List ℕ) (q : Processor) (i a place : ℕ) (b : List ℕ) : Type 0 where
+  pub start : from ≤ i
+  pub scanned : Scanning p input from at b₀ q i place b
+  pub left : Left input i to a flags values
+
+module _ (p : Processor) (input : List ℕ) (from to at : ℕ) (flags values b₀ : List ℕ) (room : at ≤ length b₀) where
+  pub going-start : Parts input from to flags values → Going p input from to at flags values b₀ p from 0 at b₀
+  going-start h =
+      record { start = omega arith; scanned = scanning-start p input from at b₀; left = left-start input from to flags values h }
+
+  module _ (q : Processor) (i a place : ℕ) (b : List ℕ) where
+    pub going-end : from ≤ i → Scanning p input from at b₀ q i place b → BatchPost p input from at b₀ (record { processor = q; from = i; at = place }) b
+    going-end s h =
+        record { start = s; reach = h .reach; inside = h .inside; past-end = λ l. absurd (omega arith); scans = h .scans }
+
+    module _ (h : Going p input from to at flags values b₀ q i a place b) (less : i < to) (end : ℕ) (line : LineEnd input i end) where
+      pub going-next-line : Next input i to a flags values end ((end - i) / 4)
+      going-next-line = next-line input i to a flags values (h .left) less end line
+
+      pub going-short : length flags ≤ 4096 → length (take (a + (end - i) / 4 - a) (drop a flags)) ≤ 4096
+      going-short s = part-short (drop a flags) (a + (end - i) / 4 - a) 4096 (omega (arith, going-next-line .fits))
+
+      module _ (k : ℕ) (e : k ≡ a + (end - i) / 4) (r : Batched) (b′ : List ℕ) (size : length b′ ≡ length b)
+          (post : PartPost q (pieceOf (take (k - a) (drop a flags)) (take (k - a) (drop a values))) i end place b r b′) where
+        n : Next input i to a flags values end ((end - i) / 4)
+        n = next-line input i to a flags values (h .left) less end line
+
+        T : Trace
+        T = pieceOf (take (k - a) (drop a flags)) (take (k - a) (drop a values))
+
+        same : T ≡ n .said
+        unfolding T
+        same =
+            ap₂ pieceOf (ap (λ (x : ℕ). take x (drop a flags)) {x = k - a} {y = (end - i) / 4} (omega arith) ∙ n .flagPart)
+            (ap (λ (x : ℕ). take x (drop a values)) {x = k - a} {y = (end - i) / 4} (omega arith) ∙ n .valuePart)
+
+        gathered : Gathered input i end T
+        gathered =
+            subst (Gathered input i end) (sym same)
+            (one-more input i i end (pieceOf [] []) (gathered-none input i) line (n .said) (n .is) (subst Sized (n .is) (reading-sized (part input i end))))
+
+        pub going-taken : Scanning p input from at b₀ (r .processor) (r .from) (r .at) b′
+        unfolding T
+        going-taken = scanning-batch p input from at b₀ q i place b (h .scanned) r b′ size (post .post input gathered)
+
+        -- nothing happened, or something that ends here
+        pub going-stopped : r .from ≡ i → BatchPost p input from at b₀ (record { processor = r .processor; from = i; at = r .at }) b′
+        going-stopped z =
+            going-end-at (subst (λ (x : ℕ). Scanning p input from at b₀ (r .processor) x (r .at) b′) z going-taken)
+          where
+            going-end-at : Scanning p input from at b₀ (r .processor) i (r .at) b′ → BatchPost p input from at b₀ (record { processor = r .processor; from = i; at = r .at }) b′
+            going-end-at s =
+                record { start = h .start; reach = s .reach; inside = s .inside; past-end = λ l. absurd (omega arith); scans = s .scans }
+
+        pub going-on : (r .from ≡ i → ⊥) → Going p input from to at flags values b₀ (r .processor) end k (r .at) b′
+        going-on z =
+            record {
+              start = omega (arith, h .start, line .some);
+              scanned = subst (λ (x : ℕ). Scanning p input from at b₀ (r .processor) x (r .at) b′) (at-end (post .either)) going-taken;
+              left = subst (λ (x : ℕ). Left input end to x flags values) (sym e) (n .others);
+            }
+          where
+            at-end : (r .from ≡ i) ⊎ (r .from ≡ end) → r .from ≡ end
+            at-end (inl x) = absurd (z x)
+            at-end (inr x) = x
+
+-- nothing happened, and then something did
+pub batch-then : (p : Processor) (input : List ℕ) (from at : ℕ) (b : List ℕ) → at ≤ length b → (r : Batched) (b₁ : List ℕ) → length b₁ ≡ length b → BatchPost p input from at b r b₁
+    → r .from ≡ from → (s : Batched) (b₂ : List ℕ) → length b₂ ≡ length b₁ → BatchPost (r .processor) input from (r .at) b₁ s b₂ → BatchPost p input from at b s b₂
+batch-then p input from at b room r b₁ l g z s b₂ m f =
+    let one = scanning-batch p input from at b p from at b (scanning-start p input from at b) r b₁ l g in
+    let here = subst (λ (x : ℕ). Scanning p input from at b (r .processor) x (r .at) b₁) z one in
+    let two = scanning-batch p input from at b (r .processor) from (r .at) b₁ here s b₂ m f in
+    record {
+      start = f .start;
+      reach = two .reach;
+      inside = two .inside;
+      past-end = λ h. absurd (omega arith);
+      scans = two .scans;
+    }

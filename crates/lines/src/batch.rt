@@ -3,7 +3,7 @@ ghost use Prim.Native.Nat.{_+_, _≤_};
 ghost use mathlib.Core.Path.{_≡_};
 ghost use lib.ListN.{length};
 ghost use Rattle.steps.specs.Post.{countIn, pieceOf};
-ghost use Rattle.lines.specs.Batches.{beginsSamples, AddPost, GatherPost, TakeAllPost, BatchPost};
+ghost use Rattle.lines.specs.Batches.{beginsSamples, AddPost, Parts, GatherPost, TakeAllPost, PartPost, BatchPost};
 use calls::Answer;
 use ends::End;
 use ends::line_end;
@@ -124,7 +124,80 @@ fn may_say_samples(input: &[u8], from: usize) -> bool
     (input[from] == 48) & (input[from + 1] == 50)
 }
 
-// Carries out the lines of samples from a place on; where they cannot be taken in one piece, nothing happens.
+// Takes a piece that lines say, if there is room for its replies; where the sweep does not take it, nothing happens.
+fn take_part(
+    p: Processor,
+    flags: &[u8],
+    values: &[u8],
+    from: usize,
+    to: usize,
+    out: &mut [u8],
+    at: usize,
+) -> Batched
+    requires { ⌜ length (now flags) ≤ 4096 ⌝ }
+    ensures { λ r. ⌜ PartPost p (pieceOf (now (flags .entry)) (now (values .entry))) from to at (now (out .entry)) r (now (out .exit)) ⌝ }
+{
+    if !has_room(MOST, out, at) {
+        return Batched {
+            processor: p,
+            from,
+            at,
+        };
+    }
+    take_all(p, flags, values, from, to, out, at)
+}
+
+// Takes the samples of the lines from a place to before another, each line's part of the two slices as a piece, up to the first that is not
+// taken.
+fn take_lines(
+    p: Processor,
+    input: &[u8],
+    from: usize,
+    to: usize,
+    flags: &[u8],
+    values: &[u8],
+    out: &mut [u8],
+    at: usize,
+) -> Batched
+    requires { ⌜ (length (now flags) ≤ 4096) × (at ≤ length (now out)) × Parts (now input) from to (now flags) (now values) ⌝ }
+    ensures { λ r. ⌜ BatchPost p (now (input .entry)) from at (now (out .entry)) r (now (out .exit)) ⌝ }
+{
+    let mut q = p;
+    let mut i = from;
+    let mut a: usize = 0;
+    let mut place = at;
+    while i < to {
+        let e = line_end(input, i);
+        let End::At(end) = e else {
+            return Batched {
+                processor: q,
+                from: i,
+                at: place,
+            };
+        };
+        let b = a + (end - i) / 4;
+        let t = take_part(q, &flags[a..b], &values[a..b], i, end, out, place);
+        q = t.processor;
+        place = t.at;
+        if t.from == i {
+            return Batched {
+                processor: q,
+                from: i,
+                at: place,
+            };
+        }
+        i = end;
+        a = b;
+    }
+    Batched {
+        processor: q,
+        from: i,
+        at: place,
+    }
+}
+
+// Carries out the lines of samples from a place on, in one piece, or where the sweep does not take that, line by line up to the first that it
+// does not take.
 pub fn batch(p: Processor, input: &[u8], from: usize, out: &mut [u8], at: usize) -> Batched
     ensures { λ r. ⌜ BatchPost p (now (input .entry)) from at (now (out .entry)) r (now (out .exit)) ⌝ }
 {
@@ -147,5 +220,18 @@ pub fn batch(p: Processor, input: &[u8], from: usize, out: &mut [u8], at: usize)
     let g = gather(input, from, &mut flags, &mut values);
     let n = g.n;
     let to = g.end;
-    take_all(p, &flags[..n], &values[..n], from, to, out, at)
+    let t = take_all(p, &flags[..n], &values[..n], from, to, out, at);
+    if t.from != from {
+        return t;
+    }
+    take_lines(
+        t.processor,
+        input,
+        from,
+        to,
+        &flags[..n],
+        &values[..n],
+        out,
+        t.at,
+    )
 }
