@@ -41,7 +41,6 @@ returns c =
 sub-b : tie.Need-sub-b Inv-loop μ-loop
 sub-b c =
     let a = c .before .before .before .before .before .before .before .before .before .before .args in
-    let pre = c .before .before .before .before .before .before .before .before .before .before .pre in
     let l = c .before .before .before .before .before .loop in
     omega (arith, (end-at (a .input .now) (l .i) _ _ (c .before .e .given .1) (c .before .before .before .line-end .ensures)) .some)
 
@@ -98,7 +97,6 @@ returns-2 c =
 loop-less : tie.Need-loop-less Inv-loop μ-loop
 loop-less c =
     let a = c .before .before .before .before .before .before .before .before .before .before .before .before .before .before .before .before .before .before .before .args in
-    let pre = c .before .before .before .before .before .before .before .before .before .before .before .before .before .before .before .before .before .before .before .pre in
     let l = c .before .before .before .before .before .before .before .before .before .before .before .before .before .before .loop in
     omega (arith, (end-at (a .input .now) (l .i) _ _ (c .before .before .before .before .before .before .before .before .before .before .e .given .1) (c .before .before .before .before .before .before .before .before .before .before .before .before .line-end .ensures)) .some)
 
