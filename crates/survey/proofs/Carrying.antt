@@ -21,13 +21,14 @@ use Rattle.lines.specs.Survey.{linesIn, surveyed}
 use Rattle.lines.specs.Post.{afterwards, Because, ScanPost}
 use Rattle.lines.proofs.Scanning.{stood, survey-rest}
 use Rattle.lines.proofs.Turns.{read-back}
+use Rattle.survey.specs.Failing.{Failing}
 use Rattle.survey.specs.declared.Course.{Course}
 use Rattle.survey.specs.declared.Course.the-variants.{Goes, Over, Failed}
 use Rattle.survey.specs.declared.Survey.{Survey}
 use Rattle.survey.specs.declared.Passed.{Passed}
 use Rattle.survey.specs.declared.Came.the-variants.{End}
 use Rattle.survey.specs.declared.Read.{Read}
-use Rattle.survey.specs.Post.{Carries, Prints, PassPost, Left, CarriedPost, endedAs, Going, Stands, ToStartPost, ReadPost}
+use Rattle.survey.specs.Post.{Carries, Prints, PrintPost, PassPost, Left, CarriedPost, endedAs, Going, Stands, ToStartPost, ReadPost}
 use Rattle.survey.proofs.Keeping.{part-of, past-part}
 
 -- ---- what is printed
@@ -52,11 +53,12 @@ module _ (p : Processor) (input : List ℕ) (from : ℕ) (b : List ℕ) (r : Sca
             };
       }
 
-  pub scan-passed : from ≤ length input → (w : Bool) → PassPost p input from (record { scan = r .scan; processor = r .processor; from = r .from; written = w })
-  scan-passed l w =
+  pub scan-passed : from ≤ length input → (w : Bool) → PrintPost w → PassPost p input from (record { scan = r .scan; processor = r .processor; from = r .from; written = w })
+  scan-passed l w f =
       record {
         reach = h .reach l;
         past = λ σ m e. subst (λ (x : Scan). Because x input (r .from) (r .at) b) e (h .because σ m);
+        failing = f .failing;
         new = λ σ m. h .scans σ m .new;
         carries = λ σ m.
             let d = h .scans σ m in
@@ -92,11 +94,10 @@ module _ (p₀ : Processor) (held : List ℕ) where
   carrying-start =
       record { reach = omega arith; new = λ σ m. []; carries = λ σ m. record { next = σ; made = m; same = λ R t. refl } }
 
-  -- of a survey that failed nothing is said
-  pub carried-failed : (p : Processor) (x : Survey) (input : List ℕ) → x ≡ endedAs Failed p → CarriedPost p₀ held x input
-  carried-failed p x input e =
+  pub carried-failed : (p : Processor) (x : Survey) (input : List ℕ) → x ≡ endedAs Failed p → Failing → CarriedPost p₀ held x input
+  carried-failed p x input e f =
       subst (λ (y : Survey). CarriedPost p₀ held y input) (sym e)
-      (record { inside = omega arith; new = λ σ m. []; left = λ σ m. tt })
+      (record { inside = omega arith; new = λ σ m. []; left = λ σ m. f })
 
   module _ (p : Processor) (from : ℕ) (h : Carrying p₀ held p from) (r : Passed) (g : PassPost p held from r) where
     both : (σ : Sweep) → Made σ p₀ → List ℕ

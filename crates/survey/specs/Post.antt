@@ -12,6 +12,7 @@ use Rattle.lines.specs.declared.scan.Scan.the-variants.{Rest}
 use Rattle.lines.specs.declared.scan.Scanned.{Scanned}
 use Rattle.lines.specs.Survey.{linesIn, surveyed}
 use Rattle.lines.specs.Post.{afterwards}
+use Rattle.survey.specs.Failing.{Failing}
 use Rattle.survey.specs.declared.Course.{Course}
 use Rattle.survey.specs.declared.Course.the-variants.{Goes, Over, Failed}
 use Rattle.survey.specs.declared.Survey.{Survey}
@@ -38,21 +39,26 @@ pub record Carries (σ : Sweep) (held : List ℕ) (complete : Bool) (scan : Scan
 pub record Prints (p : Processor) (input : List ℕ) (from : ℕ) (complete : Bool) (r : Scanned) (bytes : List ℕ) : Type 0 where
   pub carries : (σ : Sweep) → Made σ p → Carries σ (drop from input) complete (r .scan) (r .processor) (drop (r .from) input) bytes
 
+-- it is false for a failed write alone
+pub record PrintPost (written : Bool) : Type 0 where
+  pub failing : written ≡ false → Failing
+
 -- ---- what is carried out
 
 -- one scan: `new` was printed, and if the lines are at their end, the rest holds no whole one
 pub record PassPost (p : Processor) (input : List ℕ) (from : ℕ) (r : Passed) : Type 0 where
   pub reach : r .from ≤ length input
   pub past : (σ : Sweep) → Made σ p → r .scan ≡ Rest → LinePast input (r .from)
+  pub failing : r .written ≡ false → Failing
   pub new : (σ : Sweep) → Made σ p → List ℕ
   pub carries : (σ : Sweep) (m : Made σ p) → Carries σ (drop from input) false (r .scan) (r .processor) (drop (r .from) input) (new σ m)
 
 -- What is known of the bytes held, those kept and those printed. A survey that goes on has carried out all whole lines; one that is over printed
--- all there is, whatever comes behind; of one whose reads or writes fail nothing is.
+-- all there is, whatever comes behind; of one that a failed write ended nothing is.
 abbrev pub Left : Course → Sweep → List ℕ → Processor → List ℕ → List ℕ → Type 0
 Left Goes σ held p rest new = LinePast rest 0 × Carries σ held false Rest p rest new
 Left Over σ held p rest new = (R : List ℕ) → surveyed (linesIn (held ++ R)) σ ≡ new
-Left Failed σ held p rest new = Unit {0}
+Left Failed σ held p rest new = Failing
 
 -- all lines of the bytes held: what is left is at the start of the input buffer
 pub record CarriedPost (p : Processor) (held : List ℕ) (r : Survey) (input : List ℕ) : Type 0 where

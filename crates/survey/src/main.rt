@@ -17,7 +17,7 @@ ghost use Prim.Native.Nat.{_≤_};
 ghost use mathlib.Core.Path.{_≡_};
 ghost use lib.ListN.{length, take};
 ghost use Rattle.ends.specs.Ends.{LinePast};
-ghost use Rattle.survey.specs.Post.{endedAs, Prints, PassPost, CarriedPost, Going, Stands, ToStartPost, ReadPost};
+ghost use Rattle.survey.specs.Post.{endedAs, Prints, PrintPost, PassPost, CarriedPost, Going, Stands, ToStartPost, ReadPost};
 
 // A proved loop has to end, and nothing says that an input does. So the loops around calls of the system count down from a number that no
 // run uses up.
@@ -89,6 +89,7 @@ fn is_written(put: isize) -> bool {
 // that were carried out, from a processor and a place of the input on: for this alone it is handed what it does not use.
 fn print(p: Processor, input: &[u8], from: usize, complete: bool, r: Scanned, bytes: &[u8]) -> bool
     requires { ⌜ Prints p (now input) from complete r (now bytes) ⌝ }
+    ensures { λ written. ⌜ PrintPost written ⌝ }
 {
     let n = bytes.len();
     let mut done: usize = 0;

@@ -2,7 +2,9 @@ use Prim.Native.Nat.{ℕ}
 use mathlib.Core.Path.{_≡_, refl, ap}
 use mathlib.Core.List.{List}
 use lib.ListN.{length, take}
+use borrow.Author.Tests.{not-true}
 use Rattle.steps.proofs.Answering.{part-length}
+use Rattle.survey.specs.Failing.{turns-used}
 use Rattle.survey.proofs.Carrying.{Carrying, carrying-start, carrying-next, carried-failed, carried-over, carried-kept}
 use native.Mathlib.Omega.{arith}
 use borrow.Author.Needs.{needs}
@@ -39,7 +41,7 @@ same-length-2 : tie.Need-same-length-2 Inv-loop μ-loop
 same-length-2 c = omega (arith, c .before .before .before .before .before .output .given, c .before .before .before .before .before .before .before .before .before .before .loop .inv .1)
 
 returns : tie.Need-returns Inv-loop μ-loop
-returns c = carried-failed _ _ (c .before .before .before .before .before .before .pass .result .processor) (c .ended .result) _ (c .ended .ensures)
+returns c = carried-failed _ _ (c .before .before .before .before .before .before .pass .result .processor) (c .ended .result) _ (c .ended .ensures) (c .before .before .before .before .before .before .pass .ensures .failing (not-true _ (c .before .if1 .taken)))
 
 enum-told : tie.Need-enum-told Inv-loop μ-loop
 enum-told c = search needs
@@ -114,7 +116,7 @@ same-length-8 : tie.Need-same-length-8 Inv-loop μ-loop
 same-length-8 c = c .before .before .loop .inv .1
 
 returns-4 : tie.Need-returns-4 Inv-loop μ-loop
-returns-4 c = carried-failed _ _ (c .before .before .loop .p) (c .ended3 .result) _ (c .ended3 .ensures)
+returns-4 c = carried-failed _ _ (c .before .before .loop .p) (c .ended3 .result) _ (c .ended3 .ensures) turns-used
 
 pub carried-spec : {M : Type 1} → statement M
 carried-spec =

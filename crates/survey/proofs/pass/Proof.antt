@@ -27,7 +27,7 @@ returns : tie.Need-returns
 returns c =
     let start = c .before .before .before .before .before .before .before .before .before in
     let scan-lines = c .before .before .before .before .before .scan-lines in
-    scan-passed (start .args .p) (start .args .input .now) (start .args .from) _ (scan-lines .result) _ (scan-lines .ensures) (start .pre) (c .print .result)
+    scan-passed (start .args .p) (start .args .input .now) (start .args .from) _ (scan-lines .result) _ (scan-lines .ensures) (start .pre) (c .print .result) (c .print .ensures)
 
 pub pass-spec : {M : Type 1} → statement M
 pass-spec =

@@ -1,3 +1,5 @@
+use Rattle.rules.proofs.Truth.{impossible}
+use Rattle.survey.specs.Failing.{write-failed}
 use lib.ListN.{length}
 use Prim.Native.Nat.{_≤_}
 use borrow.Author.Needs.{needs}
@@ -15,7 +17,7 @@ loop-holds : tie.Need-loop-holds Inv-loop μ-loop
 loop-holds c = omega arith
 
 returns : tie.Need-returns Inv-loop μ-loop
-returns c = search needs
+returns c = record { failing = λ e. write-failed }
 
 sub-rest : tie.Need-sub-rest Inv-loop μ-loop
 sub-rest c = omega arith
@@ -33,7 +35,7 @@ is-written-requires : tie.Need-is-written-requires Inv-loop μ-loop
 is-written-requires c κs = search needs
 
 returns-2 : tie.Need-returns-2 Inv-loop μ-loop
-returns-2 c = search needs
+returns-2 c = record { failing = λ e. write-failed }
 
 count-requires : tie.Need-count-requires Inv-loop μ-loop
 count-requires c κs = search needs
@@ -51,7 +53,7 @@ loop-again : tie.Need-loop-again Inv-loop μ-loop
 loop-again c = omega arith
 
 returns-3 : tie.Need-returns-3 Inv-loop μ-loop
-returns-3 c = search needs
+returns-3 c = record { failing = λ e. absurd (impossible e) }
 
 pub print-spec : {M : Type 1} → statement M
 print-spec =
