@@ -1,13 +1,14 @@
 -- Lines of samples taken as one piece: the sweep takes the piece if and only if it takes the lines, and the replies are the same.
-use Prim.Native.Nat.{ℕ, zero, suc, _+_, _-_, _*_, _≤_, _<_}
+use Prim.Native.Nat.{ℕ, zero, suc, _+_, _-_, _*_, _/_, _≤_, _<_}
 use native.Mathlib.Omega.{arith}
 use mathlib.Core.Path.{_≡_, refl, sym, ap, ap₂, _∙_, subst}
 use mathlib.Core.Logic.{_⊎_, inl, inr}
 use mathlib.Core.Bool.{true, false, not, _&&_}
 use mathlib.Core.List.{List, [], _∷_, _++_, append-assoc, append-nil}
 use lib.Dec.{ltb, eqb}
-use lib.ListN.{length, getD, take, drop, set, length-append, take-append-drop}
-use lib.Seq.{length-take-le, take-suc, take-take, take-append-seam, take-at}
+use lib.ListN.{length, getD, take, drop, length-append}
+use borrow.Rule.Slice.PartMut.{midOf, postOf, putMid, mid-len, same-len-mid}
+use lib.Seq.{length-take-le, take-append-seam, take-append-add, take-append-le}
 use borrow.Author.Tests.{lt-leb, le-leb, eq-eqb, le-ltb}
 use Rattle.rules.specs.Records.{recordSize}
 use Rattle.rules.specs.declared.Reply.{Reply}
@@ -18,7 +19,7 @@ use Rattle.rules.specs.Calls.{check, notOpen, unequal, overlong, badFlag, Answe
 use Rattle.rules.proofs.Truth.{impossible}
 use Rattle.rules.proofs.ListLaws.{all-append, any-first, any-second}
 use Rattle.rules.proofs.Checks.{all-skip}
-use Rattle.rules.proofs.Buffers.{put-one, over-at-nil}
+use Rattle.rules.proofs.Buffers.{over-at-nil}
 use Rattle.rules.proofs.Joining.{handed-fresh, append-same, fresh-join}
 use Rattle.rules.proofs.HandingOut.{fresh-most}
 use Rattle.calls.specs.declared.Answer.the-variants.{Accepted, Refused}
@@ -33,7 +34,6 @@ use Rattle.frames.specs.Writing.{replyLine, replyLines, firstLines}
 use Rattle.reading.specs.Post.{lineOf, flagsAfter, valuesAfter, ReadPost}
 use Rattle.frames.specs.Post.{WritePost}
 use Rattle.reading.proofs.Sizes.{Sized, reading-sized}
-use Rattle.hexadecimal.proofs.Parts.{over-at-length, Putting, putting-start, putting-next}
 use Rattle.lines.specs.declared.batch.Gathering.{Gathering}
 use Rattle.lines.specs.declared.batch.Batched.{Batched}
 use Rattle.lines.specs.declared.scan.Scan.the-variants.{Rest}
@@ -42,9 +42,10 @@ use Rattle.steps.specs.Outcomes.{Outcome, goes, takenAs, freshOf, outcomeAt, li
 use Rattle.steps.specs.Post.{pieceOf, countIn}
 use Rattle.lines.specs.Survey.{linesIn, further, surveyed}
 use Rattle.lines.specs.Post.{Scans}
-use Rattle.lines.specs.Batches.{beginsSamples, samplesIn, AddPost, Takes, Gathered, GatherPost, batchAs, printedAs, TakeAllPost, BatchPost, batchRoom, batchMost}
-use Rattle.steps.proofs.Answering.{Wrote, write-inside, flags-lent, values-lent, said-most, turned-down, given-back, was-accepted, went-on, replies-wrote}
-use Rattle.lines.proofs.Scanning.{good-take, part, survey-first}
+use Rattle.lines.specs.Batches.{beginsSamples, samplesIn, AddPost, Takes, Gathered, Parts, GatherPost, batchAs, printedAs, TakeAllPost, BatchPost, PartPost, batchRoom, batchMost}
+use Rattle.steps.proofs.Answering.{Wrote, write-inside, said-most, turned-down, given-back, was-accepted, went-on, replies-wrote}
+use Rattle.lines.proofs.Scanning.{good-take, part, survey-first, Scanning, scanning-start, scanning-batch}
+use Rattle.lines.proofs.Laying.{laid-none, parts-more, Left, left-start, Next, next-line}
 
 -- ---- the first two characters
 
@@ -55,42 +56,13 @@ module _ (input : List ℕ) (from : ℕ) where
   pub begins-long : from + 2 ≤ length input → (eqb (getD input from 0) 48 && eqb (getD input (from + 1) 0) 50) ≡ beginsSamples input from
   begins-long h = rw (le-leb (from + 2) (length input) h)
 
--- ---- bytes put behind others
-
-abbrev pub firstOnes : List ℕ → ℕ → List ℕ
-firstOnes l i = take i l
-
-module _ (l : List ℕ) (k : ℕ) (short : k ≤ length l) (n : ℕ) (b₀ : List ℕ) (room : n + k ≤ length b₀) where
-  pub append-start : Putting (firstOnes l) k n b₀ b₀ 0
-  append-start = putting-start (firstOnes l) k n b₀ refl
-
-  pub append-next : (b : List ℕ) (i : ℕ) → i < k → Putting (firstOnes l) k n b₀ b i → Putting (firstOnes l) k n b₀ (set b (n + i) (getD l i 0)) (i + 1)
-  append-next b i h s =
-      putting-next (firstOnes l) k n b₀ b (set b (n + i) (getD l i 0)) (getD l i 0 ∷ []) i (n + i)
-      (ap (λ (j : ℕ). take j l) {x = i + 1} {y = suc i} (omega arith) ∙ take-suc l i 0 (omega arith))
-      (omega (arith, length-take-le i l (omega arith))) (omega (arith, h)) h (put-one b (n + i) (getD l i 0) (omega (arith, s .size))) s
-
-  pub append-end : (b : List ℕ) (i : ℕ) → k ≤ i → Putting (firstOnes l) k n b₀ b i → b ≡ over-at (take k l) n b₀
-  append-end b i h s = s .is ∙ ap (λ (j : ℕ). over-at (take j l) n b₀) {x = i} {y = k} (omega (arith, h, s .most))
-
--- the bytes before a place, and the first of those put there
-behind-over : (l b : List ℕ) (n k : ℕ) → n ≤ length b → k ≤ length l → take (n + k) (over-at l n b) ≡ take n b ++ take k l
-unfolding over-at
-behind-over l b n k h m =
-    ap (take (n + k))
-    (ap (λ (x : List ℕ). (take n b ++ x) ++ drop (n + length l) b) (sym (take-append-drop k l))
-    ∙ ap (λ (x : List ℕ). x ++ drop (n + length l) b) (sym (append-assoc (take n b) (take k l) (drop k l)))
-    ∙ append-assoc (take n b ++ take k l) (drop k l) (drop (n + length l) b))
-    ∙ take-at (take n b ++ take k l) (drop k l ++ drop (n + length l) b) (n + k)
-    (length-append (take n b) (take k l) ∙ omega (arith, length-take-le n b h, length-take-le k l m))
-
 -- ---- the samples of a line
 
 first-over : (l b : List ℕ) → take (length l) (over l b) ≡ l
 unfolding over
 first-over l b = take-append-seam l (drop (length l) b)
 
-module _ (n : ℕ) (f₀ v₀ f v : List ℕ) (flags values : List ℕ) where
+module _ (f₀ v₀ : List ℕ) where
   added : (x : Reading) → Sized x → take (countIn (lineOf x)) (flagsAfter x f₀) ≡ samplesIn x .flags
   added (opening ω) s = refl
   added (samples P) s = first-over (P .flags) f₀
@@ -103,26 +75,40 @@ module _ (n : ℕ) (f₀ v₀ f v : List ℕ) (flags values : List ℕ) where
   added-values closing s = refl
   added-values (unread k) s = refl
 
-  counted : (x : Reading) → countIn (lineOf x) ≡ length (samplesIn x .flags)
-  counted (opening ω) = refl
-  counted (samples P) = refl
-  counted closing = refl
-  counted (unread k) = refl
+counted : (x : Reading) → countIn (lineOf x) ≡ length (samplesIn x .flags)
+counted (opening ω) = refl
+counted (samples P) = refl
+counted closing = refl
+counted (unread k) = refl
 
-  pub add-post : (line : List ℕ) (said : Line) → ReadPost line f₀ v₀ said f v → length f₀ ≡ 64 → length v₀ ≡ 64 → n + 64 ≤ length flags → n + 64 ≤ length values
-      → (k : ℕ) → k ≡ countIn said → (flags′ values′ : List ℕ) → flags′ ≡ over-at (take 64 f) n flags → values′ ≡ over-at (take 64 v) n values
-      → AddPost line n flags values k flags′ values′
-  add-post line said r f-size v-size f-room v-room k e flags′ values′ p q =
+-- a line's samples land behind those that are there, in the part of the buffer from place n on
+behind-put : (n k : ℕ) (b part l : List ℕ) → n + k ≤ length b → k ≤ length part → take k part ≡ l → take (n + k) (putMid n (length b - n) b part) ≡ take n b ++ l
+behind-put n k b part l h m e =
+    ap (λ (x : ℕ). take (x + k) (putMid n (length b - n) b part)) (sym (length-take-le n b (omega arith)))
+    ∙ take-append-add (take n b) (part ++ postOf n (length b - n) b) k
+    ∙ ap (λ (x : List ℕ). take n b ++ x) (take-append-le k part (postOf n (length b - n) b) m ∙ e)
+
+module _ (line : List ℕ) (n : ℕ) (flags values : List ℕ) (f-room : n + 64 ≤ length flags) (v-room : n + 64 ≤ length values) where
+  abbrev f₀ : List ℕ
+  f₀ = midOf n (length flags - n) flags
+
+  abbrev v₀ : List ℕ
+  v₀ = midOf n (length values - n) values
+
+  pub add-room : (b : List ℕ) → n + 64 ≤ length b → 64 ≤ length (midOf n (length b - n) b)
+  add-room b h = omega (arith, mid-len n (length b) b (omega arith))
+
+  pub add-post : (said : Line) (f v : List ℕ) → ReadPost line f₀ v₀ said f v → length f ≡ length f₀ → length v ≡ length v₀ → (k : ℕ) → k ≡ countIn said
+      → AddPost line n flags values k (putMid n (length flags - n) flags f) (putMid n (length values - n) values v)
+  add-post said f v r f-size v-size k e =
       record {
         count = count ∙ counted (reading line);
-        flagRoom = ap length p ∙ over-at-length (take 64 f) n flags (omega (arith, f-long));
-        valueRoom = ap length q ∙ over-at-length (take 64 v) n values (omega (arith, v-long));
-        flagBytes =
-            ap (take (n + k)) p ∙ behind-over (take 64 f) flags n k (omega arith) (omega (arith, f-long, few))
-            ∙ ap (λ (l : List ℕ). take n flags ++ l) (take-take k 64 f few ∙ ap₂ take count (r .flagBytes) ∙ added (reading line) (reading-sized line));
-        valueBytes =
-            ap (take (n + k)) q ∙ behind-over (take 64 v) values n k (omega arith) (omega (arith, v-long, few))
-            ∙ ap (λ (l : List ℕ). take n values ++ l) (take-take k 64 v few ∙ ap₂ take count (r .valueBytes) ∙ added-values (reading line) (reading-sized line));
+        flagRoom = same-len-mid n (length flags - n) flags f f-size;
+        valueRoom = same-len-mid n (length values - n) values v v-size;
+        flagBytes = behind-put n k flags f (samplesIn (reading line) .flags) (omega (arith, few)) (omega (arith, few, f-size, add-room flags f-room))
+            (ap₂ take count (r .flagBytes) ∙ added f₀ v₀ (reading line) (reading-sized line));
+        valueBytes = behind-put n k values v (samplesIn (reading line) .values) (omega (arith, few)) (omega (arith, few, v-size, add-room values v-room))
+            (ap₂ take count (r .valueBytes) ∙ added-values f₀ v₀ (reading line) (reading-sized line));
       }
     where
       count : k ≡ countIn (lineOf (reading line))
@@ -130,12 +116,6 @@ module _ (n : ℕ) (f₀ v₀ f v : List ℕ) (flags values : List ℕ) where
 
       few : k ≤ 64
       few = omega (arith, e, said-most line f₀ v₀ said f v r)
-
-      f-long : length (take 64 f) ≡ 64
-      f-long = length-take-le 64 f (omega (arith, flags-lent line f₀ v₀ said f v r f-size))
-
-      v-long : length (take 64 v) ≡ 64
-      v-long = length-take-le 64 v (omega (arith, values-lent line f₀ v₀ said f v r v-size))
 
 -- ---- a sweep that takes two traces end to end
 
@@ -241,16 +221,24 @@ module _ (input : List ℕ) (from i to : ℕ) (T : Trace) (g : Gathered input fr
   line-more closing e z h = absurd (omega arith)
   line-more (unread k) e z h = absurd (omega arith)
 
+-- a line that adds samples says these
+samples-said : (x : Reading) → 0 < length (samplesIn x .flags) → x ≡ samples (samplesIn x)
+samples-said (opening ω) h = absurd (omega arith)
+samples-said (samples P) h = refl
+samples-said closing h = absurd (omega arith)
+samples-said (unread k) h = absurd (omega arith)
+
 -- n samples are gathered, from the lines up to place i
 pub record SoFar (input : List ℕ) (from : ℕ) (flags₀ values₀ flags values : List ℕ) (i n : ℕ) : Type 0 where
   pub most : n ≤ 4096
   pub flag-room : length flags ≡ length flags₀
   pub value-room : length values ≡ length values₀
   pub all : Gathered input from i (pieceOf (take n flags) (take n values))
+  pub parts : Parts input from i (take n flags) (take n values)
 
 module _ (input : List ℕ) (from : ℕ) (flags₀ values₀ : List ℕ) where
   pub so-far-start : SoFar input from flags₀ values₀ flags₀ values₀ from 0
-  so-far-start = record { most = omega arith; flag-room = refl; value-room = refl; all = gathered-none input from }
+  so-far-start = record { most = omega arith; flag-room = refl; value-room = refl; all = gathered-none input from; parts = laid-none input from }
 
   module _ (flags values : List ℕ) (i n : ℕ) (h : SoFar input from flags₀ values₀ flags values i n) where
     pub so-far-end : (r : Gathering) → r .end ≡ i → r .n ≡ n → GatherPost input from r flags values
@@ -259,6 +247,8 @@ module _ (input : List ℕ) (from : ℕ) (flags₀ values₀ : List ℕ) where
           most = omega (arith, f, h .most);
           all = subst (λ (k : ℕ). Gathered input from (r .end) (pieceOf (take k flags) (take k values))) (sym f)
               (subst (λ (k : ℕ). Gathered input from k (pieceOf (take n flags) (take n values))) (sym e) (h .all));
+          parts = subst (λ (k : ℕ). Parts input from (r .end) (take k flags) (take k values)) (sym f)
+              (subst (λ (k : ℕ). Parts input from k (take n flags) (take n values)) (sym e) (h .parts));
         }
 
     module _ (to : ℕ) (k : ℕ) (flags′ values′ : List ℕ) (p : AddPost (part input i to) n flags values k flags′ values′) where
@@ -292,6 +282,7 @@ module _ (input : List ℕ) (from : ℕ) (flags₀ values₀ : List ℕ) where
             flag-room = p .flagRoom ∙ h .flag-room;
             value-room = p .valueRoom ∙ h .value-room;
             all = subst (Gathered input from i) (sym (ap₂ pieceOf flags-same values-same)) (h .all);
+            parts = subst (λ (x : List ℕ). Parts input from i x (take n values′)) (sym flags-same) (subst (Parts input from i (take n flags)) (sym values-same) (h .parts));
           }
         where
           flags-same : take n flags′ ≡ take n flags
@@ -311,6 +302,9 @@ module _ (input : List ℕ) (from : ℕ) (flags₀ values₀ : List ℕ) where
             value-room = p .valueRoom ∙ h .value-room;
             all = subst (Gathered input from to) (sym (ap₂ pieceOf (p .flagBytes) (p .valueBytes)))
                 (line-more input from i to (pieceOf (take n flags) (take n values)) (h .all) line read-here refl (reading-sized (part input i to)) (omega (arith, p .count, d)));
+            parts = subst (λ (x : List ℕ). Parts input from to x (take (n + k) values′)) (sym (p .flagBytes))
+                (subst (Parts input from to (take n flags ++ samplesIn read-here .flags)) (sym (p .valueBytes))
+                (parts-more input from i (take n flags) (take n values) (h .parts) to (samplesIn read-here) line (samples-said read-here (omega (arith, p .count, d)))));
           }
 
 -- ---- the piece
@@ -414,3 +408,94 @@ module _ (p : Processor) (input : List ℕ) (from to at : ℕ) (b : List ℕ) (r
       reaches : from ≤ length input → (r .from ≡ from) ⊎ (r .from ≡ to) → r .from ≤ length input
       reaches h (inl e) = omega (arith, e, h)
       reaches h (inr e) = omega (arith, e, g .reach h)
+
+-- ---- one piece, or line after line
+
+pub part-nothing : (p : Processor) (T : Trace) (from to at : ℕ) (b : List ℕ) → PartPost p T from to at b (record { processor = p; from = from; at = at }) b
+part-nothing p T from to at b = record { either = inl refl; post = λ input g. batch-nothing p input from at b }
+
+pub part-taken : (p : Processor) (T : Trace) (from to at : ℕ) (b : List ℕ) → at + batchMost ≤ length b → (r : Batched) (b′ : List ℕ) → TakeAllPost p T from to at b r b′ → PartPost p T from to at b r b′
+part-taken p T from to at b room r b′ h =
+    record { either = h .either; post = λ input g. batch-post p input from to at b room T g r b′ h }
+
+-- the lines up to place i are carried out, and the samples from place a on are those of the others
+pub record Going (p : Processor) (input : List ℕ) (from to at : ℕ) (flags values b₀ : List ℕ) (q : Processor) (i a place : ℕ) (b : List ℕ) : Type 0 where
+  pub start : from ≤ i
+  pub scanned : Scanning p input from at b₀ q i place b
+  pub left : Left input i to a flags values
+
+module _ (p : Processor) (input : List ℕ) (from to at : ℕ) (flags values b₀ : List ℕ) (room : at ≤ length b₀) where
+  pub going-start : Parts input from to flags values → Going p input from to at flags values b₀ p from 0 at b₀
+  going-start h =
+      record { start = omega arith; scanned = scanning-start p input from at b₀; left = left-start input from to flags values h }
+
+  module _ (q : Processor) (i a place : ℕ) (b : List ℕ) where
+    pub going-end : from ≤ i → Scanning p input from at b₀ q i place b → BatchPost p input from at b₀ (record { processor = q; from = i; at = place }) b
+    going-end s h =
+        record { start = s; reach = h .reach; inside = h .inside; past-end = λ l. absurd (omega arith); scans = h .scans }
+
+    module _ (h : Going p input from to at flags values b₀ q i a place b) (less : i < to) (end : ℕ) (line : LineEnd input i end) where
+      pub going-next-line : Next input i to a flags values end ((end - i) / 4)
+      going-next-line = next-line input i to a flags values (h .left) less end line
+
+      pub going-short : length flags ≤ 4096 → length (take (a + (end - i) / 4 - a) (drop a flags)) ≤ 4096
+      going-short s = part-short (drop a flags) (a + (end - i) / 4 - a) 4096 (omega (arith, going-next-line .fits))
+
+      module _ (k : ℕ) (e : k ≡ a + (end - i) / 4) (r : Batched) (b′ : List ℕ) (size : length b′ ≡ length b)
+          (post : PartPost q (pieceOf (take (k - a) (drop a flags)) (take (k - a) (drop a values))) i end place b r b′) where
+        n : Next input i to a flags values end ((end - i) / 4)
+        n = next-line input i to a flags values (h .left) less end line
+
+        T : Trace
+        T = pieceOf (take (k - a) (drop a flags)) (take (k - a) (drop a values))
+
+        same : T ≡ n .said
+        unfolding T
+        same =
+            ap₂ pieceOf (ap (λ (x : ℕ). take x (drop a flags)) {x = k - a} {y = (end - i) / 4} (omega arith) ∙ n .flagPart)
+            (ap (λ (x : ℕ). take x (drop a values)) {x = k - a} {y = (end - i) / 4} (omega arith) ∙ n .valuePart)
+
+        gathered : Gathered input i end T
+        gathered =
+            subst (Gathered input i end) (sym same)
+            (one-more input i i end (pieceOf [] []) (gathered-none input i) line (n .said) (n .is) (subst Sized (n .is) (reading-sized (part input i end))))
+
+        pub going-taken : Scanning p input from at b₀ (r .processor) (r .from) (r .at) b′
+        unfolding T
+        going-taken = scanning-batch p input from at b₀ q i place b (h .scanned) r b′ size (post .post input gathered)
+
+        -- nothing happened, or something that ends here
+        pub going-stopped : r .from ≡ i → BatchPost p input from at b₀ (record { processor = r .processor; from = i; at = r .at }) b′
+        going-stopped z =
+            going-end-at (subst (λ (x : ℕ). Scanning p input from at b₀ (r .processor) x (r .at) b′) z going-taken)
+          where
+            going-end-at : Scanning p input from at b₀ (r .processor) i (r .at) b′ → BatchPost p input from at b₀ (record { processor = r .processor; from = i; at = r .at }) b′
+            going-end-at s =
+                record { start = h .start; reach = s .reach; inside = s .inside; past-end = λ l. absurd (omega arith); scans = s .scans }
+
+        pub going-on : (r .from ≡ i → ⊥) → Going p input from to at flags values b₀ (r .processor) end k (r .at) b′
+        going-on z =
+            record {
+              start = omega (arith, h .start, line .some);
+              scanned = subst (λ (x : ℕ). Scanning p input from at b₀ (r .processor) x (r .at) b′) (at-end (post .either)) going-taken;
+              left = subst (λ (x : ℕ). Left input end to x flags values) (sym e) (n .others);
+            }
+          where
+            at-end : (r .from ≡ i) ⊎ (r .from ≡ end) → r .from ≡ end
+            at-end (inl x) = absurd (z x)
+            at-end (inr x) = x
+
+-- nothing happened, and then something did
+pub batch-then : (p : Processor) (input : List ℕ) (from at : ℕ) (b : List ℕ) → at ≤ length b → (r : Batched) (b₁ : List ℕ) → length b₁ ≡ length b → BatchPost p input from at b r b₁
+    → r .from ≡ from → (s : Batched) (b₂ : List ℕ) → length b₂ ≡ length b₁ → BatchPost (r .processor) input from (r .at) b₁ s b₂ → BatchPost p input from at b s b₂
+batch-then p input from at b room r b₁ l g z s b₂ m f =
+    let one = scanning-batch p input from at b p from at b (scanning-start p input from at b) r b₁ l g in
+    let here = subst (λ (x : ℕ). Scanning p input from at b (r .processor) x (r .at) b₁) z one in
+    let two = scanning-batch p input from at b (r .processor) from (r .at) b₁ here s b₂ m f in
+    record {
+      start = f .start;
+      reach = two .reach;
+      inside = two .inside;
+      past-end = λ h. absurd (omega arith);
+      scans = two .scans;
+    }

@@ -211,13 +211,13 @@ went true (goes σ l) q place s e is h =
 went true (stops k) q place s e is h = absurd (omega (arith, ap kindOf (sym h ∙ ap (λ (x : Stepped). x .step) is)))
 went false o q place s e is h = absurd (omega (arith, ap kindOf (sym h ∙ ap (λ (x : Stepped). x .step) is)))
 
-record Stood (t : Bool) (o : Outcome) (q : Processor) (place : ℕ) (s : Stepped) (k e : ℕ) : Type 0 where
-  room : t ≡ true
-  is : o ≡ stops k
-  to : e ≡ place + length (refusalLine k)
-  made : s .processor ≡ q
+pub record Stood (t : Bool) (o : Outcome) (q : Processor) (place : ℕ) (s : Stepped) (k e : ℕ) : Type 0 where
+  pub room : t ≡ true
+  pub is : o ≡ stops k
+  pub to : e ≡ place + length (refusalLine k)
+  pub made : s .processor ≡ q
 
-stood : (t : Bool) (o : Outcome) (q : Processor) (place : ℕ) (s : Stepped) (k e : ℕ) → s ≡ steppedAs t o q place → s .step ≡ Stops k e → Stood t o q place s k e
+pub stood : (t : Bool) (o : Outcome) (q : Processor) (place : ℕ) (s : Stepped) (k e : ℕ) → s ≡ steppedAs t o q place → s .step ≡ Stops k e → Stood t o q place s k e
 unfolding kindOf numberIn
 stood true (goes σ l) q place s k e is h = absurd (omega (arith, ap kindOf (sym h ∙ ap (λ (x : Stepped). x .step) is)))
 stood true (stops j) q place s k e is h =

@@ -16,7 +16,7 @@ use Rattle.lines.specs.Post.{afterwards, Scans}
 use Rattle.lines.specs.Whole.{Turn, turn, Then, Chain, allRead, allPrinted, lastScan, lastProcessor, lastHeld, AnyCutting}
 
 -- what was printed, read back from the output
-read-back : (new : List ℕ) (at place : ℕ) (b b′ : List ℕ) → at ≤ length b → place ≡ at + length new → b′ ≡ over-at new at b → take (place - at) (drop at b′) ≡ new
+pub read-back : (new : List ℕ) (at place : ℕ) (b b′ : List ℕ) → at ≤ length b → place ≡ at + length new → b′ ≡ over-at new at b → take (place - at) (drop at b′) ≡ new
 unfolding over-at
 read-back new at place b b′ h e is =
     ap₂ (λ (n : ℕ) (x : List ℕ). take n (drop at x)) {x = place - at} {y = length new} (omega (arith, e)) (is ∙ append-assoc (take at b) new (drop (at + length new) b))

@@ -1,7 +1,7 @@
 -- Lines of samples that are taken as one piece.
-use Prim.Native.Nat.{ℕ, _+_, _*_, _≤_, _<_}
+use Prim.Native.Nat.{ℕ, _+_, _-_, _*_, _≤_, _<_}
 use mathlib.Core.Bool.{Bool, true, false, _&&_}
-use mathlib.Core.List.{List, [], _++_}
+use mathlib.Core.List.{List, [], _∷_, _++_}
 use mathlib.Core.Path.{_≡_}
 use mathlib.Core.Logic.{_⊎_}
 use lib.Dec.{leb, eqb}
@@ -15,6 +15,7 @@ use Rattle.processor.specs.State.{Sweep, isOpen, takenBy, processorOf, Sound, M
 use Rattle.calls.specs.Post.{longer, takeAnswerAt}
 use Rattle.reading.specs.Frames.{Reading, opening, samples, closing, reading, refused as unread}
 use Rattle.frames.specs.Writing.{replyLines, replyLineSize}
+use Rattle.ends.specs.Ends.{LineEnd}
 use Rattle.lines.specs.declared.batch.Gathering.{Gathering}
 use Rattle.lines.specs.declared.batch.Batched.{Batched}
 use Rattle.lines.specs.declared.scan.Scan.the-variants.{Rest}
@@ -59,9 +60,35 @@ pub record Gathered (input : List ℕ) (from to : ℕ) (T : Trace) : Type 0 wher
   pub same : (σ : Sweep) → Sound σ → Takes σ T → (R : List ℕ)
       → surveyed (linesIn (drop from input ++ R)) σ ≡ replyLines (freshOf σ T) ++ surveyed (linesIn (drop to input ++ R)) (longer σ T)
 
+-- a line with samples: where it ends, and what it says
+pub record Told : Type 0 where
+  pub end : ℕ
+  pub said : Trace
+
+-- these are the lines from one place to before another
+abbrev pub Laid : List ℕ → ℕ → List Told → ℕ → Type 0
+Laid input from [] to = from ≡ to
+Laid input from (l ∷ ls) to = LineEnd input from (l .end) × (reading (take (l .end - from) (drop from input)) ≡ samples (l .said)) × Laid input (l .end) ls to
+
+abbrev pub allFlags : List Told → List ℕ
+allFlags [] = []
+allFlags (l ∷ ls) = l .said .flags ++ allFlags ls
+
+abbrev pub allValues : List Told → List ℕ
+allValues [] = []
+allValues (l ∷ ls) = l .said .values ++ allValues ls
+
+-- the samples of the lines from `from` to before `to`, end to end
+pub record Parts (input : List ℕ) (from to : ℕ) (flags values : List ℕ) : Type 0 where
+  pub lines : List Told
+  pub laid : Laid input from lines to
+  pub flagParts : flags ≡ allFlags lines
+  pub valueParts : values ≡ allValues lines
+
 pub record GatherPost (input : List ℕ) (from : ℕ) (r : Gathering) (flags values : List ℕ) : Type 0 where
   pub most : r .n ≤ 4096
   pub all : Gathered input from (r .end) (pieceOf (take (r .n) flags) (take (r .n) values))
+  pub parts : Parts input from (r .end) (take (r .n) flags) (take (r .n) values)
 
 -- ---- the piece
 
@@ -94,3 +121,8 @@ pub record BatchPost (p : Processor) (input : List ℕ) (from at : ℕ) (b : Lis
   pub inside : at ≤ length b → r .at ≤ length b
   pub past-end : length b < at → (r ≡ record { processor = p; from = from; at = at }) × (b′ ≡ b)
   pub scans : (σ : Sweep) → Made σ p → Scans σ input from at b (record { scan = Rest; processor = r .processor; from = r .from; at = r .at }) b′
+
+-- If the lines from `from` to before `to` say T, these are carried out, or nothing happens.
+pub record PartPost (p : Processor) (T : Trace) (from to at : ℕ) (b : List ℕ) (r : Batched) (b′ : List ℕ) : Type 0 where
+  pub either : (r .from ≡ from) ⊎ (r .from ≡ to)
+  pub post : (input : List ℕ) → Gathered input from to T → BatchPost p input from at b r b′

@@ -1,10 +1,9 @@
 // Lines of samples, as many as there are one after the other, are taken as one piece of up to 4,096 ticks. What they print is the same.
 ghost use Prim.Native.Nat.{_+_, _≤_};
 ghost use mathlib.Core.Path.{_≡_};
-ghost use lib.ListN.{length, take};
-ghost use Rattle.rules.specs.Buffers.{over-at};
+ghost use lib.ListN.{length};
 ghost use Rattle.steps.specs.Post.{countIn, pieceOf};
-ghost use Rattle.lines.specs.Batches.{beginsSamples, AddPost, GatherPost, TakeAllPost, BatchPost, batchMost};
+ghost use Rattle.lines.specs.Batches.{beginsSamples, AddPost, Parts, GatherPost, TakeAllPost, PartPost, BatchPost, batchMost};
 use calls::Answer;
 use ends::End;
 use ends::line_end;
@@ -38,18 +37,6 @@ pub struct Batched {
     pub at: usize,
 }
 
-// 64 bytes, from place n of a buffer on.
-fn append(bytes: &[u8], all: &mut [u8], n: usize)
-    requires { ⌜ (64 ≤ length (now bytes)) × (n + 64 ≤ length (now all)) ⌝ }
-    ensures { λ _. ⌜ now (all .exit) ≡ over-at (take 64 (now (bytes .entry))) n (now (all .entry)) ⌝ }
-{
-    let mut i: usize = 0;
-    while i < 64 {
-        all[n + i] = bytes[i];
-        i += 1;
-    }
-}
-
 fn count_in(line: Line) -> usize
     ensures { λ r. ⌜ r ≡ countIn line ⌝ }
 {
@@ -69,13 +56,8 @@ fn add_samples(line: &[u8], flags: &mut [u8], values: &mut [u8], n: usize) -> us
     requires { ⌜ (n + 64 ≤ length (now flags)) × (n + 64 ≤ length (now values)) ⌝ }
     ensures { λ r. ⌜ AddPost (now (line .entry)) n (now (flags .entry)) (now (values .entry)) r (now (flags .exit)) (now (values .exit)) ⌝ }
 {
-    let mut f = [0u8; 64];
-    let mut v = [0u8; 64];
-    let said = read(line, &mut f, &mut v);
-    let k = count_in(said);
-    append(&f, flags, n);
-    append(&v, values, n);
-    k
+    let said = read(line, &mut flags[n..], &mut values[n..]);
+    count_in(said)
 }
 
 // The samples of the lines from a place on, up to the first that says something else.
@@ -148,7 +130,80 @@ fn may_say_samples(input: &[u8], from: usize) -> bool
     (input[from] == 48) & (input[from + 1] == 50)
 }
 
-// Carries out the lines of samples from a place on; where they cannot be taken in one piece, nothing happens.
+// Takes a piece that lines say, if there is room for its replies; where the sweep does not take it, nothing happens.
+fn take_part(
+    p: Processor,
+    flags: &[u8],
+    values: &[u8],
+    from: usize,
+    to: usize,
+    out: &mut [u8],
+    at: usize,
+) -> Batched
+    requires { ⌜ length (now flags) ≤ 4096 ⌝ }
+    ensures { λ r. ⌜ PartPost p (pieceOf (now (flags .entry)) (now (values .entry))) from to at (now (out .entry)) r (now (out .exit)) ⌝ }
+{
+    if !has_room(MOST, out, at) {
+        return Batched {
+            processor: p,
+            from,
+            at,
+        };
+    }
+    take_all(p, flags, values, from, to, out, at)
+}
+
+// Takes the samples of the lines from a place to before another, each line's part of the two slices as a piece, up to the first that is not
+// taken.
+fn take_lines(
+    p: Processor,
+    input: &[u8],
+    from: usize,
+    to: usize,
+    flags: &[u8],
+    values: &[u8],
+    out: &mut [u8],
+    at: usize,
+) -> Batched
+    requires { ⌜ (length (now flags) ≤ 4096) × (at ≤ length (now out)) × Parts (now input) from to (now flags) (now values) ⌝ }
+    ensures { λ r. ⌜ BatchPost p (now (input .entry)) from at (now (out .entry)) r (now (out .exit)) ⌝ }
+{
+    let mut q = p;
+    let mut i = from;
+    let mut a: usize = 0;
+    let mut place = at;
+    while i < to {
+        let e = line_end(input, i);
+        let End::At(end) = e else {
+            return Batched {
+                processor: q,
+                from: i,
+                at: place,
+            };
+        };
+        let b = a + (end - i) / 4;
+        let t = take_part(q, &flags[a..b], &values[a..b], i, end, out, place);
+        q = t.processor;
+        place = t.at;
+        if t.from == i {
+            return Batched {
+                processor: q,
+                from: i,
+                at: place,
+            };
+        }
+        i = end;
+        a = b;
+    }
+    Batched {
+        processor: q,
+        from: i,
+        at: place,
+    }
+}
+
+// Carries out the lines of samples from a place on, in one piece, or where the sweep does not take that, line by line up to the first that it
+// does not take.
 pub fn batch(p: Processor, input: &[u8], from: usize, out: &mut [u8], at: usize) -> Batched
     ensures { λ r. ⌜ BatchPost p (now (input .entry)) from at (now (out .entry)) r (now (out .exit)) ⌝ }
 {
@@ -171,5 +226,18 @@ pub fn batch(p: Processor, input: &[u8], from: usize, out: &mut [u8], at: usize)
     let g = gather(input, from, &mut flags, &mut values);
     let n = g.n;
     let to = g.end;
-    take_all(p, &flags[..n], &values[..n], from, to, out, at)
+    let t = take_all(p, &flags[..n], &values[..n], from, to, out, at);
+    if t.from != from {
+        return t;
+    }
+    take_lines(
+        t.processor,
+        input,
+        from,
+        to,
+        &flags[..n],
+        &values[..n],
+        out,
+        t.at,
+    )
 }

@@ -1,7 +1,9 @@
 // Frames, one a line: what a line says, or the number with which it is refused.
 mod samples;
 
+ghost use Prim.Native.Nat.{_≤_};
 ghost use mathlib.Core.Path.{_≡_};
+ghost use lib.ListN.{length};
 ghost use Rattle.reading.specs.Frames.{wellFormed};
 ghost use Rattle.reading.specs.Post.{ReadPost};
 use characters::are_digits;
@@ -42,8 +44,9 @@ fn well_formed(line: &[u8]) -> bool
     are_digits(line, n - 1)
 }
 
-// What a line says, its newline included. Samples land at the start of the two buffers; nothing else is written.
-pub fn read(line: &[u8], flags: &mut [u8; 64], values: &mut [u8; 64]) -> Line
+// What a line says, its newline included. Samples, at most 64, land at the start of the two slices lent; nothing else is written.
+pub fn read(line: &[u8], flags: &mut [u8], values: &mut [u8]) -> Line
+    requires { ⌜ (64 ≤ length (now flags)) × (64 ≤ length (now values)) ⌝ }
     ensures { λ r. ⌜ ReadPost (now (line .entry)) (now (flags .entry)) (now (values .entry)) r (now (flags .exit)) (now (values .exit)) ⌝ }
 {
     if !well_formed(line) {

@@ -20,28 +20,34 @@ returns c =
     let a = c .before .before .before .before .before .args in
     full-post (a .p) (a .line .now) (a .at) (a .out .now) (sym (c .before .has-room .ensures) ∙ not-true _ (c .if1 .taken))
 
+slice-aggregate-read : tie.Need-slice-aggregate-read
+slice-aggregate-read c = search needs
+
+slice-aggregate-read-2 : tie.Need-slice-aggregate-read-2
+slice-aggregate-read-2 c = search needs
+
 read-requires : tie.Need-read-requires
 read-requires c κs = search needs
 
 slice-aggregate-answer-line : tie.Need-slice-aggregate-answer-line
-slice-aggregate-answer-line c = flags-lent (c .before .before .before .before .before .before .before .before .before .args .line .now) _ _ _ _ _ (c .before .read .ensures) refl
+slice-aggregate-answer-line c = flags-lent (c .before .before .before .before .before .before .before .before .before .before .before .args .line .now) _ _ _ _ _ (c .before .before .before .read .ensures) refl
 
 slice-aggregate-answer-line-2 : tie.Need-slice-aggregate-answer-line-2
-slice-aggregate-answer-line-2 c = values-lent (c .before .before .before .before .before .before .before .before .before .before .args .line .now) _ _ _ _ _ (c .before .before .read .ensures) refl
+slice-aggregate-answer-line-2 c = values-lent (c .before .before .before .before .before .before .before .before .before .before .before .before .args .line .now) _ _ _ _ _ (c .before .before .before .before .read .ensures) refl
 
 answer-line-requires : tie.Need-answer-line-requires
 answer-line-requires c κs =
-    let read = c .before .before .before .read in
-    let a = c .before .before .before .before .before .before .before .before .before .before .before .args in
-    (said-most (a .line .now) _ _ _ _ _ (read .ensures), omega (arith, said-most (a .line .now) _ _ _ _ _ (read .ensures), flags-lent (a .line .now) _ _ _ _ _ (read .ensures) refl), omega (arith, said-most (a .line .now) _ _ _ _ _ (read .ensures), values-lent (a .line .now) _ _ _ _ _ (read .ensures) refl), leb-true (a .at + lineMost) (length (a .out .now)) (sym (c .before .before .before .before .before .before .before .has-room .ensures) ∙ not-false _ (c .before .before .before .before .before .before .if1 .left)))
+    let read = c .before .before .before .before .before .read in
+    let a = c .before .before .before .before .before .before .before .before .before .before .before .before .before .args in
+    (said-most (a .line .now) _ _ _ _ _ (read .ensures), omega (arith, said-most (a .line .now) _ _ _ _ _ (read .ensures), flags-lent (a .line .now) _ _ _ _ _ (read .ensures) refl), omega (arith, said-most (a .line .now) _ _ _ _ _ (read .ensures), values-lent (a .line .now) _ _ _ _ _ (read .ensures) refl), leb-true (a .at + lineMost) (length (a .out .now)) (sym (c .before .before .before .before .before .before .before .before .before .has-room .ensures) ∙ not-false _ (c .before .before .before .before .before .before .before .before .if1 .left)))
 
 same-length-2 : tie.Need-same-length-2
 same-length-2 c = search needs
 
 returns-2 : tie.Need-returns-2
 returns-2 c =
-    let a = c .before .before .before .before .before .before .before .before .before .before .before .before .before .before .args in
-    step-post (a .line .now) _ _ _ _ _ (c .before .before .before .before .before .before .read .ensures) (a .p) (a .at) (a .out .now) (sym (c .before .before .before .before .before .before .before .before .before .before .has-room .ensures) ∙ not-false _ (c .before .before .before .before .before .before .before .before .before .if1 .left)) _ _ (c .before .before .answer-line .ensures)
+    let a = c .before .before .before .before .before .before .before .before .before .before .before .before .before .before .before .before .args in
+    step-post (a .line .now) _ _ _ _ _ (c .before .before .before .before .before .before .before .before .read .ensures) (a .p) (a .at) (a .out .now) (sym (c .before .before .before .before .before .before .before .before .before .before .before .before .has-room .ensures) ∙ not-false _ (c .before .before .before .before .before .before .before .before .before .before .before .if1 .left)) _ _ (c .before .before .answer-line .ensures)
 
 pub line-step-spec : {M : Type 1} → statement M
 line-step-spec =
@@ -50,6 +56,8 @@ line-step-spec =
     has-room-requires
     same-length
     returns
+    slice-aggregate-read
+    slice-aggregate-read-2
     read-requires
     slice-aggregate-answer-line
     slice-aggregate-answer-line-2

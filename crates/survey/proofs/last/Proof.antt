@@ -1,7 +1,8 @@
 use Rattle.steps.specs.Post.{placeOf}
 use Rattle.steps.specs.declared.Step.{Step}
-use mathlib.Core.Path.{ap}
+use mathlib.Core.Path.{refl, ap}
 use Rattle.steps.proofs.Answering.{part-length}
+use Rattle.survey.proofs.Carrying.{rest-prints}
 use native.Mathlib.Omega.{arith}
 use borrow.Author.Needs.{needs}
 use Rattle.survey.proofs.last.Statement.{statement}
@@ -29,7 +30,10 @@ slice-aggregate-print : tie.Need-slice-aggregate-print
 slice-aggregate-print c = part-length _ _ (omega (arith, c .before .before .before .before .before .before .rest-step .ensures .inside (omega arith), ap (λ (x : Step). placeOf x 0) (c .before .before .how .given .1), c .before .before .before .before .before .output .given))
 
 print-requires : tie.Need-print-requires
-print-requires c κs = search needs
+print-requires c κs =
+    let start = c .before .before .before .before .before .before .before .before .before .before .before in
+    let rest-step = c .before .before .before .before .before .before .rest-step in
+    rest-prints (start .args .p) (start .args .rest .now) _ (rest-step .result) _ (rest-step .ensures) (start .pre) (omega arith) _ _ _ (c .before .before .how .given .1) refl
 
 more-requires : tie.Need-more-requires
 more-requires c κs = search needs

@@ -1,4 +1,5 @@
 use Rattle.steps.proofs.Answering.{part-length}
+use Rattle.survey.proofs.Carrying.{scan-prints, scan-passed}
 use native.Mathlib.Omega.{arith}
 use borrow.Author.Needs.{needs}
 use Rattle.survey.proofs.pass.Statement.{statement}
@@ -14,58 +15,19 @@ slice-aggregate-print : tie.Need-slice-aggregate-print
 slice-aggregate-print c = part-length _ _ (omega (arith, c .before .before .before .before .scan-lines .ensures .inside (omega arith), c .before .before .before .output .given))
 
 print-requires : tie.Need-print-requires
-print-requires c κs = search needs
-
-came-to-requires : tie.Need-came-to-requires
-came-to-requires c κs = search needs
+print-requires c κs =
+    let a = c .before .before .before .before .before .before .before .before .args in
+    let scan-lines = c .before .before .before .before .scan-lines in
+    scan-prints (a .p) (a .input .now) (a .from) _ (scan-lines .result) _ (scan-lines .ensures)
 
 same-length : tie.Need-same-length
 same-length c = search needs
 
 returns : tie.Need-returns
-returns c = omega (arith, c .came-to .ensures, c .before .before .before .before .before .before .before .scan-lines .ensures .reach (c .before .before .before .before .before .before .before .before .before .before .before .pre))
-
-enum-told : tie.Need-enum-told
-enum-told c = search needs
-
-came-to-requires-2 : tie.Need-came-to-requires-2
-came-to-requires-2 c κs = search needs
-
-enum-told-2 : tie.Need-enum-told-2
-enum-told-2 c = search needs
-
-came-to-requires-3 : tie.Need-came-to-requires-3
-came-to-requires-3 c κs = search needs
-
-enum-known-how : tie.Need-enum-known-how
-enum-known-how c = search needs
-
-more-requires : tie.Need-more-requires
-more-requires c κs = search needs
-
-report-requires : tie.Need-report-requires
-report-requires c κs = search needs
-
-came-to-requires-4 : tie.Need-came-to-requires-4
-came-to-requires-4 c κs = search needs
-
-same-length-2 : tie.Need-same-length-2
-same-length-2 c = search needs
-
-returns-2 : tie.Need-returns-2
-returns-2 c = omega (arith, c .came-to2 .ensures, c .before .before .before .before .before .before .before .before .before .scan-lines .ensures .reach (c .before .before .before .before .before .before .before .before .before .before .before .before .before .pre))
-
-same-length-3 : tie.Need-same-length-3
-same-length-3 c = search needs
-
-returns-3 : tie.Need-returns-3
-returns-3 c = omega (arith, c .came-to3 .ensures, c .before .before .before .before .before .before .before .before .before .scan-lines .ensures .reach (c .before .before .before .before .before .before .before .before .before .before .before .before .before .pre))
-
-same-length-4 : tie.Need-same-length-4
-same-length-4 c = search needs
-
-returns-4 : tie.Need-returns-4
-returns-4 c = omega (arith, c .came-to4 .ensures, c .before .before .before .before .before .before .before .before .before .before .before .before .scan-lines .ensures .reach (c .before .before .before .before .before .before .before .before .before .before .before .before .before .before .before .before .pre))
+returns c =
+    let start = c .before .before .before .before .before .before .before .before .before in
+    let scan-lines = c .before .before .before .before .before .scan-lines in
+    scan-passed (start .args .p) (start .args .input .now) (start .args .from) _ (scan-lines .result) _ (scan-lines .ensures) (start .pre) (c .print .result) (c .print .ensures)
 
 pub pass-spec : {M : Type 1} → statement M
 pass-spec =
@@ -75,20 +37,5 @@ pass-spec =
     slice-reshare-prefix-print
     slice-aggregate-print
     print-requires
-    came-to-requires
     same-length
-    returns
-    enum-told
-    came-to-requires-2
-    enum-told-2
-    came-to-requires-3
-    enum-known-how
-    more-requires
-    report-requires
-    came-to-requires-4
-    same-length-2
-    returns-2
-    same-length-3
-    returns-3
-    same-length-4
-    returns-4)
+    returns)

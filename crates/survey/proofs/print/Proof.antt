@@ -1,3 +1,5 @@
+use Rattle.rules.proofs.Truth.{impossible}
+use Rattle.survey.specs.Failing.{write-failed}
 use lib.ListN.{length}
 use Prim.Native.Nat.{_≤_}
 use borrow.Author.Needs.{needs}
@@ -6,16 +8,16 @@ use Rattle.survey.proofs.print.Statement.{statement}
 use Rattle.survey.proofs.print.Tie as tie
 
 abbrev Inv-loop : tie.InvT-loop
-Inv-loop bytes n from₀ turns₀ from turns = from ≤ length bytes
+Inv-loop input from complete bytes n done₀ turns₀ done turns = done ≤ length bytes
 
 abbrev μ-loop : tie.MeasureT-loop
-μ-loop bytes n from₀ turns₀ from turns = turns
+μ-loop input from complete bytes n done₀ turns₀ done turns = turns
 
 loop-holds : tie.Need-loop-holds Inv-loop μ-loop
 loop-holds c = omega arith
 
 returns : tie.Need-returns Inv-loop μ-loop
-returns c = search needs
+returns c = record { failing = λ e. write-failed }
 
 sub-rest : tie.Need-sub-rest Inv-loop μ-loop
 sub-rest c = omega arith
@@ -33,13 +35,13 @@ is-written-requires : tie.Need-is-written-requires Inv-loop μ-loop
 is-written-requires c κs = search needs
 
 returns-2 : tie.Need-returns-2 Inv-loop μ-loop
-returns-2 c = search needs
+returns-2 c = record { failing = λ e. write-failed }
 
 count-requires : tie.Need-count-requires Inv-loop μ-loop
 count-requires c κs = search needs
 
-add-from : tie.Need-add-from Inv-loop μ-loop
-add-from c = omega arith
+add-done : tie.Need-add-done Inv-loop μ-loop
+add-done c = omega arith
 
 sub-turns : tie.Need-sub-turns Inv-loop μ-loop
 sub-turns c = omega arith
@@ -51,7 +53,7 @@ loop-again : tie.Need-loop-again Inv-loop μ-loop
 loop-again c = omega arith
 
 returns-3 : tie.Need-returns-3 Inv-loop μ-loop
-returns-3 c = search needs
+returns-3 c = record { failing = λ e. absurd (impossible e) }
 
 pub print-spec : {M : Type 1} → statement M
 print-spec =
@@ -68,7 +70,7 @@ print-spec =
     is-written-requires
     returns-2
     count-requires
-    add-from
+    add-done
     sub-turns
     loop-less
     loop-again

@@ -1,24 +1,24 @@
-use mathlib.Core.Path.{_≡_, refl, _∙_}
-use lib.ListN.{length, length-set, getD}
-use Prim.Native.Nat.{_≤_, _-_}
+use Rattle.survey.proofs.Keeping.{Moving, moving-start, moving-next, moving-end}
+use Prim.Native.Nat.{_-_}
 use native.Mathlib.Omega.{arith}
+use borrow.Author.Tests.{ltb-false}
 use Rattle.survey.proofs.to_start.Statement.{statement}
 use Rattle.survey.proofs.to_start.Tie as tie
 
 abbrev Inv-loop : tie.InvT-loop
-Inv-loop input₀ from to i₀ k₀ input i k = (length input ≡ length input₀) × (i ≤ k) × (k ≤ to)
+Inv-loop input₀ from to i₀ k₀ input i k = Moving from to input₀ input i k
 
 abbrev μ-loop : tie.MeasureT-loop
 μ-loop input₀ from to i₀ k₀ input i k = to - k
 
 loop-holds : tie.Need-loop-holds Inv-loop μ-loop
-loop-holds c = (refl, omega arith, omega arith)
+loop-holds c = moving-start _ _ _ (c .pre .0) (c .pre .1)
 
 slice-read-input : tie.Need-slice-read-input Inv-loop μ-loop
-slice-read-input c = omega (arith, c .before .before .loop .inv .0, c .before .before .before .pre)
+slice-read-input c = omega (arith, c .before .before .loop .inv .size, c .before .before .before .pre)
 
 slice-write-input : tie.Need-slice-write-input Inv-loop μ-loop
-slice-write-input c = omega (arith, c .before .before .loop .inv, c .before .before .before .pre)
+slice-write-input c = omega (arith, c .before .before .loop .inv .size, c .before .before .loop .inv .place, c .before .before .before .pre)
 
 add-i : tie.Need-add-i Inv-loop μ-loop
 add-i c = omega arith
@@ -32,13 +32,16 @@ loop-less c = omega arith
 loop-again : tie.Need-loop-again Inv-loop μ-loop
 loop-again c =
     let l = c .before .before .loop in
-    (length-set (l .input) (l .i) (getD (l .input) (l .k) 0) ∙ l .inv .0, omega (arith, l .inv), omega (arith, l .inv))
+    let start = c .before .before .before in
+    moving-next _ _ _ (start .pre .0) (start .pre .1) (l .input) (l .i) (l .k) (l .inv) (omega arith)
 
 same-length : tie.Need-same-length Inv-loop μ-loop
-same-length c = c .before .loop .inv .0
+same-length c = c .before .loop .inv .size
 
 returns : tie.Need-returns Inv-loop μ-loop
-returns c = omega (arith, c .before .loop .inv, c .before .before .pre)
+returns c =
+    let l = c .before .loop in
+    moving-end _ _ _ (c .before .before .pre .0) (c .before .before .pre .1) (l .input) (l .i) (l .k) (l .inv) (λ x. omega arith)
 
 pub to-start-spec : {M : Type 1} → statement M
 to-start-spec =
