@@ -1,0 +1,3 @@
+-- The promises are kept.
+pub mod Numbers
+pub mod Kept

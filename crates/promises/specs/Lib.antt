@@ -1,0 +1,3 @@
+-- What was promised to the buyer.
+pub mod Calls
+pub mod Promises
