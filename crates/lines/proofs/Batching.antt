@@ -24,7 +24,7 @@ use Rattle.rules.proofs.HandingOut.{fresh-most}
 use Rattle.calls.specs.declared.Answer.the-variants.{Accepted, Refused}
 use Rattle.processor.specs.declared.Processor.{Processor}
 use Rattle.calls.specs.declared.Taken.{Taken}
-use Rattle.processor.specs.State.{Sweep, none, running, Sound, Made}
+use Rattle.processor.specs.State.{Sweep, none, running, processorOf, Sound, Made}
 use Rattle.calls.specs.Post.{longer, takeAnswerAt, TakePost}
 use Rattle.rules.proofs.Answers.{standard-allowed, took, join-assoc, join-nothing}
 use Rattle.reading.specs.declared.Line.{Line}
@@ -41,7 +41,7 @@ use Rattle.steps.specs.Outcomes.{Outcome, goes, takenAs, freshOf, outcomeAt, li
 use Rattle.steps.specs.Post.{pieceOf, countIn}
 use Rattle.lines.specs.Survey.{linesIn, further, surveyed}
 use Rattle.lines.specs.Post.{Scans}
-use Rattle.lines.specs.Batches.{beginsSamples, samplesIn, AddPost, Takes, Gathered, Parts, GatherPost, batchAs, printedAs, TakeAllPost, BatchPost, PartPost}
+use Rattle.lines.specs.Batches.{beginsSamples, samplesIn, AddPost, Takes, Gathered, Parts, GatherPost, BatchPost, TakeAllPost}
 use Rattle.steps.proofs.Answering.{Wrote, write-inside, said-most, turned-down, given-back, was-accepted, went-on, replies-wrote}
 use Rattle.lines.proofs.Scanning.{good-take, part, survey-first, Scanning, scanning-start, scanning-batch}
 use Rattle.lines.proofs.Laying.{laid-none, parts-more, Left, left-start, Next, next-line}
@@ -325,6 +325,21 @@ module _ (input : List ℕ) (from : ℕ) (flags₀ values₀ : List ℕ) where
 
 -- ---- the piece
 
+-- it is taken and its replies printed, or nothing happens
+abbrev pub batchAs : Answer → Sweep → Trace → Processor → (from to at : ℕ) → Batched
+batchAs accepted σ T p from to at = record { processor = processorOf (longer σ T); from = to; at = at + length (replyLines (freshOf σ T)) }
+batchAs (refused k) σ T p from to at = record { processor = p; from = from; at = at }
+
+abbrev pub printedAs : Answer → Sweep → Trace → List ℕ
+printedAs accepted σ T = replyLines (freshOf σ T)
+printedAs (refused k) σ T = []
+
+pub record TookAll (p : Processor) (T : Trace) (from to at : ℕ) (b : List ℕ) (r : Batched) (b′ : List ℕ) : Type 0 where
+  pub either : (r .from ≡ from) ⊎ (r .from ≡ to)
+  pub inside : r .at ≤ length b
+  pub result : (σ : Sweep) → Made σ p → r ≡ batchAs (takeAnswerAt σ T 1440) σ T p from to at
+  pub output : (σ : Sweep) → Made σ p → b′ ≡ over-at (printedAs (takeAnswerAt σ T 1440) σ T) at b
+
 pub part-short : (l : List ℕ) (n m : ℕ) → n ≤ m → length (take n l) ≤ m
 part-short l zero m h = omega arith
 part-short [] (suc n) m h = omega arith
@@ -337,7 +352,7 @@ module _ (p : Processor) (T : Trace) (from to at : ℕ) (b : List ℕ) (room : a
   few none = omega arith
   few (running mode azimuth T₀) = omega (arith, fresh-most standard T₀ T)
 
-  pub all-refused : (k : ℕ) → t .answer ≡ Refused k → TakeAllPost p T from to at b (record { processor = t .processor; from = from; at = at }) b
+  pub all-refused : (k : ℕ) → t .answer ≡ Refused k → TookAll p T from to at b (record { processor = t .processor; from = from; at = at }) b
   all-refused k e =
       record {
         either = inl refl;
@@ -349,7 +364,7 @@ module _ (p : Processor) (T : Trace) (from to at : ℕ) (b : List ℕ) (room : a
       }
 
   pub all-accepted : (n : ℕ) → t .answer ≡ Accepted n → (e : ℕ) (b′ : List ℕ) → WritePost (firstLines n h) at b e b′
-      → TakeAllPost p T from to at b (record { processor = t .processor; from = to; at = e }) b′
+      → TookAll p T from to at b (record { processor = t .processor; from = to; at = e }) b′
   all-accepted n q e b′ w =
       record {
         either = inr refl;
@@ -379,7 +394,7 @@ batch-nothing p input from at b =
     }
 
 module _ (p : Processor) (input : List ℕ) (from to at : ℕ) (b : List ℕ) (room : at + 3120 ≤ length b) (T : Trace) (g : Gathered input from to T)
-    (r : Batched) (b′ : List ℕ) (post : TakeAllPost p T from to at b r b′) where
+    (r : Batched) (b′ : List ℕ) (post : TookAll p T from to at b r b′) where
   scans-by : (σ : Sweep) (m : Made σ p) (v : Answer) → takeAnswerAt σ T 1440 ≡ v
       → Scans σ input from at b (record { scan = Rest; processor = r .processor; from = r .from; at = r .at }) b′
   scans-by σ m accepted e =
@@ -407,7 +422,7 @@ module _ (p : Processor) (input : List ℕ) (from to at : ℕ) (b : List ℕ) (r
         same = λ R. ap (λ (k : ℕ). surveyed (linesIn (drop k input ++ R)) σ) (sym (ap (λ (x : Batched). x .from) is));
       }
 
-  pub batch-post : BatchPost p input from at b r b′
+  batch-post : BatchPost p input from at b r b′
   batch-post =
       record {
         start = begins (post .either);
@@ -427,10 +442,10 @@ module _ (p : Processor) (input : List ℕ) (from to at : ℕ) (b : List ℕ) (r
 
 -- ---- one piece, or line after line
 
-pub part-nothing : (p : Processor) (T : Trace) (from to at : ℕ) (b : List ℕ) → PartPost p T from to at b (record { processor = p; from = from; at = at }) b
+pub part-nothing : (p : Processor) (T : Trace) (from to at : ℕ) (b : List ℕ) → TakeAllPost p T from to at b (record { processor = p; from = from; at = at }) b
 part-nothing p T from to at b = record { either = inl refl; post = λ input g. batch-nothing p input from at b }
 
-pub part-taken : (p : Processor) (T : Trace) (from to at : ℕ) (b : List ℕ) → at + 3120 ≤ length b → (r : Batched) (b′ : List ℕ) → TakeAllPost p T from to at b r b′ → PartPost p T from to at b r b′
+pub part-taken : (p : Processor) (T : Trace) (from to at : ℕ) (b : List ℕ) → at + 3120 ≤ length b → (r : Batched) (b′ : List ℕ) → TookAll p T from to at b r b′ → TakeAllPost p T from to at b r b′
 part-taken p T from to at b room r b′ h =
     record { either = h .either; post = λ input g. batch-post p input from to at b room T g r b′ h }
 
@@ -458,7 +473,7 @@ module _ (p : Processor) (input : List ℕ) (from to at : ℕ) (flags values b�
       going-short s = part-short (drop a flags) (a + (end - i) / 4 - a) 4096 (omega (arith, going-next-line .fits))
 
       module _ (k : ℕ) (e : k ≡ a + (end - i) / 4) (r : Batched) (b′ : List ℕ) (size : length b′ ≡ length b)
-          (post : PartPost q (pieceOf (take (k - a) (drop a flags)) (take (k - a) (drop a values))) i end place b r b′) where
+          (post : TakeAllPost q (pieceOf (take (k - a) (drop a flags)) (take (k - a) (drop a values))) i end place b r b′) where
         n : Next input i to a flags values end ((end - i) / 4)
         n = next-line input i to a flags values (h .left) less end line
 
