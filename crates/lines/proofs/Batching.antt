@@ -5,11 +5,11 @@ use mathlib.Core.Path.{_≡_, refl, sym, ap, ap₂, _∙_, subst}
 use mathlib.Core.Logic.{_⊎_, inl, inr}
 use mathlib.Core.Bool.{Bool, true, false, not, cond, _&&_, _||_}
 use mathlib.Core.List.{List, [], _∷_, _++_, append-assoc, append-nil}
-use lib.Dec.{ltb, eqb}
+use lib.Dec.{leb, ltb, eqb}
 use lib.ListN.{length, getD, take, drop, length-append}
 use borrow.Rule.Slice.PartMut.{midOf, postOf, putMid, mid-len, same-len-mid}
 use lib.Seq.{length-take-le, take-append-seam, take-append-add, take-append-le}
-use borrow.Author.Tests.{lt-leb, le-leb, eq-eqb, le-ltb}
+use borrow.Author.Tests.{leb-true, leb-false, lt-leb, le-leb, eq-eqb, le-ltb}
 use Rattle.rules.specs.declared.Reply.{Reply}
 use Rattle.rules.specs.Settings.{standard}
 use Rattle.rules.specs.Lists.{any}
@@ -24,7 +24,7 @@ use Rattle.rules.proofs.HandingOut.{fresh-most}
 use Rattle.calls.specs.declared.Answer.the-variants.{Accepted, Refused}
 use Rattle.processor.specs.declared.Processor.{Processor}
 use Rattle.calls.specs.declared.Taken.{Taken}
-use Rattle.processor.specs.State.{Sweep, none, running, processorOf, Sound, Made}
+use Rattle.processor.specs.State.{Sweep, none, running, Sound, Made}
 use Rattle.calls.specs.Post.{longer, takeAnswerAt, TakePost}
 use Rattle.rules.proofs.Answers.{standard-allowed, took, join-assoc, join-nothing}
 use Rattle.reading.specs.declared.Line.{Line}
@@ -41,7 +41,7 @@ use Rattle.steps.specs.Outcomes.{Outcome, goes, takenAs, freshOf, outcomeAt, li
 use Rattle.steps.specs.Post.{pieceOf, countIn}
 use Rattle.lines.specs.Survey.{linesIn, further, surveyed}
 use Rattle.lines.specs.Post.{Scans}
-use Rattle.lines.specs.Batches.{beginsSamples, samplesIn, AddPost, Takes, Gathered, Parts, GatherPost, BatchPost, TakeAllPost}
+use Rattle.lines.specs.Batches.{beginsSamples, samplesIn, AddPost, Takes, Gathered, Parts, GatherPost, batchAs, printedAs, TookAll, TakeAllPost, BatchPost}
 use Rattle.steps.proofs.Answering.{Wrote, write-inside, said-most, turned-down, given-back, was-accepted, went-on, replies-wrote}
 use Rattle.lines.proofs.Scanning.{good-take, part, survey-first, Scanning, scanning-start, scanning-batch}
 use Rattle.lines.proofs.Laying.{laid-none, parts-more, Left, left-start, Next, next-line}
@@ -325,21 +325,6 @@ module _ (input : List ℕ) (from : ℕ) (flags₀ values₀ : List ℕ) where
 
 -- ---- the piece
 
--- it is taken and its replies printed, or nothing happens
-abbrev pub batchAs : Answer → Sweep → Trace → Processor → (from to at : ℕ) → Batched
-batchAs accepted σ T p from to at = record { processor = processorOf (longer σ T); from = to; at = at + length (replyLines (freshOf σ T)) }
-batchAs (refused k) σ T p from to at = record { processor = p; from = from; at = at }
-
-abbrev pub printedAs : Answer → Sweep → Trace → List ℕ
-printedAs accepted σ T = replyLines (freshOf σ T)
-printedAs (refused k) σ T = []
-
-pub record TookAll (p : Processor) (T : Trace) (from to at : ℕ) (b : List ℕ) (r : Batched) (b′ : List ℕ) : Type 0 where
-  pub either : (r .from ≡ from) ⊎ (r .from ≡ to)
-  pub inside : r .at ≤ length b
-  pub result : (σ : Sweep) → Made σ p → r ≡ batchAs (takeAnswerAt σ T 1440) σ T p from to at
-  pub output : (σ : Sweep) → Made σ p → b′ ≡ over-at (printedAs (takeAnswerAt σ T 1440) σ T) at b
-
 pub part-short : (l : List ℕ) (n m : ℕ) → n ≤ m → length (take n l) ≤ m
 part-short l zero m h = omega arith
 part-short [] (suc n) m h = omega arith
@@ -442,12 +427,33 @@ module _ (p : Processor) (input : List ℕ) (from to at : ℕ) (b : List ℕ) (r
 
 -- ---- one piece, or line after line
 
-pub part-nothing : (p : Processor) (T : Trace) (from to at : ℕ) (b : List ℕ) → TakeAllPost p T from to at b (record { processor = p; from = from; at = at }) b
-part-nothing p T from to at b = record { either = inl refl; post = λ input g. batch-nothing p input from at b }
+module _ (p : Processor) (T : Trace) (from to at : ℕ) (b : List ℕ) where
+  pub all-without : length b < at + 3120 → TakeAllPost p T from to at b (record { processor = p; from = from; at = at }) b
+  all-without h = record { room = λ l. absurd (omega arith); no-room = λ l. (refl, refl) }
 
-pub part-taken : (p : Processor) (T : Trace) (from to at : ℕ) (b : List ℕ) → at + 3120 ≤ length b → (r : Batched) (b′ : List ℕ) → TookAll p T from to at b r b′ → TakeAllPost p T from to at b r b′
-part-taken p T from to at b room r b′ h =
-    record { either = h .either; post = λ input g. batch-post p input from to at b room T g r b′ h }
+  module _ (r : Batched) (b′ : List ℕ) where
+    pub all-with : at + 3120 ≤ length b → TookAll p T from to at b r b′ → TakeAllPost p T from to at b r b′
+    all-with h t = record { room = λ l. t; no-room = λ l. absurd (omega arith) }
+
+    module _ (h : TakeAllPost p T from to at b r b′) where
+      -- whether there is room
+      by-room : {A : Type 0} → (TookAll p T from to at b r b′ → at + 3120 ≤ length b → A) → ((r ≡ record { processor = p; from = from; at = at }) × (b′ ≡ b) → A) → A
+      by-room {A} f g = go (leb (at + 3120) (length b)) refl
+        where
+          go : (t : Bool) → leb (at + 3120) (length b) ≡ t → A
+          go true e =
+              let l = leb-true (at + 3120) (length b) e in
+              f (h .room l) l
+          go false e = g (h .no-room (leb-false (at + 3120) (length b) e))
+
+      pub all-either : (r .from ≡ from) ⊎ (r .from ≡ to)
+      all-either = by-room (λ t l. t .either) (λ n. inl (ap (λ (x : Batched). x .from) (n .0)))
+
+      -- the lines that say T are carried out, or nothing happens
+      pub all-batch : (input : List ℕ) → Gathered input from to T → BatchPost p input from at b r b′
+      all-batch input g =
+          by-room (λ t l. batch-post p input from to at b l T g r b′ t)
+          (λ n. subst (λ (x : Batched). BatchPost p input from at b x b′) (sym (n .0)) (subst (BatchPost p input from at b (record { processor = p; from = from; at = at })) (sym (n .1)) (batch-nothing p input from at b)))
 
 -- the lines up to place i are carried out, and the samples from place a on are those of the others
 pub record Going (p : Processor) (input : List ℕ) (from to at : ℕ) (flags values b₀ : List ℕ) (q : Processor) (i a place : ℕ) (b : List ℕ) : Type 0 where
@@ -493,7 +499,7 @@ module _ (p : Processor) (input : List ℕ) (from to at : ℕ) (flags values b�
 
         pub going-taken : Scanning p input from at b₀ (r .processor) (r .from) (r .at) b′
         unfolding T
-        going-taken = scanning-batch p input from at b₀ q i place b (h .scanned) r b′ size (post .post input gathered)
+        going-taken = scanning-batch p input from at b₀ q i place b (h .scanned) r b′ size (all-batch q T i end place b r b′ post input gathered)
 
         -- nothing happened, or something that ends here
         pub going-stopped : r .from ≡ i → BatchPost p input from at b₀ (record { processor = r .processor; from = i; at = r .at }) b′
@@ -505,10 +511,11 @@ module _ (p : Processor) (input : List ℕ) (from to at : ℕ) (flags values b�
                 record { start = h .start; reach = s .reach; inside = s .inside; past-end = λ l. absurd (omega arith); scans = s .scans }
 
         pub going-on : (r .from ≡ i → ⊥) → Going p input from to at flags values b₀ (r .processor) end k (r .at) b′
+        unfolding T
         going-on z =
             record {
               start = omega (arith, h .start, line .some);
-              scanned = subst (λ (x : ℕ). Scanning p input from at b₀ (r .processor) x (r .at) b′) (at-end (post .either)) going-taken;
+              scanned = subst (λ (x : ℕ). Scanning p input from at b₀ (r .processor) x (r .at) b′) (at-end (all-either q T i end place b r b′ post)) going-taken;
               left = subst (λ (x : ℕ). Left input end to x flags values) (sym e) (n .others);
             }
           where

@@ -8,9 +8,11 @@ use lib.Dec.{leb, eqb}
 use lib.ListN.{length, getD, take, drop}
 use Rattle.rules.specs.Lists.{any, All}
 use Rattle.rules.specs.Samples.{Trace, bad, sweepLimit}
+use Rattle.rules.specs.Buffers.{over-at}
+use Rattle.rules.specs.Calls.{Answer, accepted, refused}
 use Rattle.processor.specs.declared.Processor.{Processor}
-use Rattle.processor.specs.State.{Sweep, isOpen, takenBy, Sound, Made}
-use Rattle.calls.specs.Post.{longer}
+use Rattle.processor.specs.State.{Sweep, isOpen, takenBy, processorOf, Sound, Made}
+use Rattle.calls.specs.Post.{longer, takeAnswerAt}
 use Rattle.reading.specs.Frames.{Reading, opening, samples, closing, reading, refused as unread}
 use Rattle.frames.specs.Writing.{replyLines}
 use Rattle.ends.specs.Ends.{LineEnd}
@@ -90,6 +92,26 @@ pub record GatherPost (input : List ℕ) (from : ℕ) (r : Gathering) (flags val
 
 -- ---- the piece
 
+-- it is taken and its replies printed, or nothing happens
+abbrev pub batchAs : Answer → Sweep → Trace → Processor → (from to at : ℕ) → Batched
+batchAs accepted σ T p from to at = record { processor = processorOf (longer σ T); from = to; at = at + length (replyLines (freshOf σ T)) }
+batchAs (refused k) σ T p from to at = record { processor = p; from = from; at = at }
+
+abbrev pub printedAs : Answer → Sweep → Trace → List ℕ
+printedAs accepted σ T = replyLines (freshOf σ T)
+printedAs (refused k) σ T = []
+
+pub record TookAll (p : Processor) (T : Trace) (from to at : ℕ) (b : List ℕ) (r : Batched) (b′ : List ℕ) : Type 0 where
+  pub either : (r .from ≡ from) ⊎ (r .from ≡ to)
+  pub inside : r .at ≤ length b
+  pub result : (σ : Sweep) → Made σ p → r ≡ batchAs (takeAnswerAt σ T 1440) σ T p from to at
+  pub output : (σ : Sweep) → Made σ p → b′ ≡ over-at (printedAs (takeAnswerAt σ T 1440) σ T) at b
+
+-- without room for 80 replies of 39 bytes nothing happens
+pub record TakeAllPost (p : Processor) (T : Trace) (from to at : ℕ) (b : List ℕ) (r : Batched) (b′ : List ℕ) : Type 0 where
+  pub room : at + 3120 ≤ length b → TookAll p T from to at b r b′
+  pub no-room : length b < at + 3120 → (r ≡ record { processor = p; from = from; at = at }) × (b′ ≡ b)
+
 -- the lines so far are carried out; behind the end of the output nothing happens
 pub record BatchPost (p : Processor) (input : List ℕ) (from at : ℕ) (b : List ℕ) (r : Batched) (b′ : List ℕ) : Type 0 where
   pub start : from ≤ r .from
@@ -97,8 +119,3 @@ pub record BatchPost (p : Processor) (input : List ℕ) (from at : ℕ) (b : Lis
   pub inside : at ≤ length b → r .at ≤ length b
   pub past-end : length b < at → (r ≡ record { processor = p; from = from; at = at }) × (b′ ≡ b)
   pub scans : (σ : Sweep) → Made σ p → Scans σ input from at b (record { scan = Rest; processor = r .processor; from = r .from; at = r .at }) b′
-
--- If the lines from `from` to before `to` say T, these are carried out, or nothing happens.
-pub record TakeAllPost (p : Processor) (T : Trace) (from to at : ℕ) (b : List ℕ) (r : Batched) (b′ : List ℕ) : Type 0 where
-  pub either : (r .from ≡ from) ⊎ (r .from ≡ to)
-  pub post : (input : List ℕ) → Gathered input from to T → BatchPost p input from at b r b′

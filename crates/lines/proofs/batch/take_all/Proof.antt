@@ -1,9 +1,9 @@
 use Prim.Native.Nat.{_+_}
 use mathlib.Core.Path.{refl, sym, _∙_}
 use lib.ListN.{length}
-use borrow.Author.Tests.{not-false, leb-true}
+use borrow.Author.Tests.{not-true, not-false, leb-true, leb-false}
 use Rattle.steps.specs.Post.{pieceOf}
-use Rattle.lines.proofs.Batching.{all-refused, all-accepted, part-nothing, part-taken}
+use Rattle.lines.proofs.Batching.{all-refused, all-accepted, all-without, all-with}
 use borrow.Author.Needs.{needs}
 use Rattle.lines.proofs.batch.take_all.Statement.{statement}
 use Rattle.lines.proofs.batch.take_all.Tie as tie
@@ -17,7 +17,7 @@ same-length c = search needs
 returns : tie.Need-returns
 returns c =
     let a = c .before .before .before .before .before .before .args in
-    part-nothing (a .p) (pieceOf (a .flags .now) (a .values .now)) (a .from) (a .to) (a .at) (a .out .now)
+    all-without (a .p) (pieceOf (a .flags .now) (a .values .now)) (a .from) (a .to) (a .at) (a .out .now) (leb-false (a .at + 3120) (length (a .out .now)) (sym (c .before .has-room .ensures) ∙ not-true _ (c .if1 .taken)))
 
 slice-aggregate-take : tie.Need-slice-aggregate-take
 slice-aggregate-take c = search needs
@@ -44,7 +44,7 @@ returns-2 : tie.Need-returns-2
 returns-2 c =
     let a = c .before .before .before .before .before .before .before .before .before .before .before .before .args in
     let room = leb-true (a .at + 3120) (length (a .out .now)) (sym (c .before .before .before .before .before .before .before .has-room .ensures) ∙ not-false _ (c .before .before .before .before .before .before .if1 .left)) in
-    part-taken (a .p) (pieceOf (a .flags .now) (a .values .now)) (a .from) (a .to) (a .at) (a .out .now) room _ _ (all-refused (a .p) (pieceOf (a .flags .now) (a .values .now)) (a .from) (a .to) (a .at) (a .out .now) room (c .before .before .before .before .before .before .before .before .before .before .before .before .pre) _ _ refl (c .before .before .before .before .take .result) (c .before .before .before .before .take .ensures) _ (c .enum-told .given .1))
+    all-with (a .p) (pieceOf (a .flags .now) (a .values .now)) (a .from) (a .to) (a .at) (a .out .now) _ _ room (all-refused (a .p) (pieceOf (a .flags .now) (a .values .now)) (a .from) (a .to) (a .at) (a .out .now) room (c .before .before .before .before .before .before .before .before .before .before .before .before .pre) _ _ refl (c .before .before .before .before .take .result) (c .before .before .before .before .take .ensures) _ (c .enum-told .given .1))
 
 same-length-3 : tie.Need-same-length-3
 same-length-3 c = search needs
@@ -53,7 +53,7 @@ returns-3 : tie.Need-returns-3
 returns-3 c =
     let a = c .before .before .before .before .before .before .before .before .before .before .before .before .before .before .before .before .before .before .args in
     let room = leb-true (a .at + 3120) (length (a .out .now)) (sym (c .before .before .before .before .before .before .before .before .before .before .before .before .before .has-room .ensures) ∙ not-false _ (c .before .before .before .before .before .before .before .before .before .before .before .before .if1 .left)) in
-    part-taken (a .p) (pieceOf (a .flags .now) (a .values .now)) (a .from) (a .to) (a .at) (a .out .now) room _ _ (all-accepted (a .p) (pieceOf (a .flags .now) (a .values .now)) (a .from) (a .to) (a .at) (a .out .now) room (c .before .before .before .before .before .before .before .before .before .before .before .before .before .before .before .before .before .before .pre) _ _ refl (c .before .before .before .before .before .before .before .before .before .before .take .result) (c .before .before .before .before .before .before .before .before .before .before .take .ensures) _ (c .before .before .before .before .before .before .answer .given .1) _ _ (c .before .before .reply-lines .ensures))
+    all-with (a .p) (pieceOf (a .flags .now) (a .values .now)) (a .from) (a .to) (a .at) (a .out .now) _ _ room (all-accepted (a .p) (pieceOf (a .flags .now) (a .values .now)) (a .from) (a .to) (a .at) (a .out .now) room (c .before .before .before .before .before .before .before .before .before .before .before .before .before .before .before .before .before .before .pre) _ _ refl (c .before .before .before .before .before .before .before .before .before .before .take .result) (c .before .before .before .before .before .before .before .before .before .before .take .ensures) _ (c .before .before .before .before .before .before .answer .given .1) _ _ (c .before .before .reply-lines .ensures))
 
 pub take-all-spec : {M : Type 1} → statement M
 take-all-spec =
