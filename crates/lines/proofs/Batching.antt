@@ -3,13 +3,13 @@ use Prim.Native.Nat.{ℕ, zero, suc, _+_, _-_, _*_, _/_, _≤_, _<_}
 use native.Mathlib.Omega.{arith}
 use mathlib.Core.Path.{_≡_, refl, sym, ap, ap₂, _∙_, subst}
 use mathlib.Core.Logic.{_⊎_, inl, inr}
-use mathlib.Core.Bool.{true, false, not, _&&_}
+use mathlib.Core.Bool.{Bool, true, false, not, _&&_}
 use mathlib.Core.List.{List, [], _∷_, _++_, append-assoc, append-nil}
-use lib.Dec.{ltb, eqb}
+use lib.Dec.{leb, ltb, eqb}
 use lib.ListN.{length, getD, take, drop, length-append}
 use borrow.Rule.Slice.PartMut.{midOf, postOf, putMid, mid-len, same-len-mid}
 use lib.Seq.{length-take-le, take-append-seam, take-append-add, take-append-le}
-use borrow.Author.Tests.{lt-leb, le-leb, eq-eqb, le-ltb}
+use borrow.Author.Tests.{leb-true, leb-false, lt-leb, le-leb, eq-eqb, le-ltb}
 use Rattle.rules.specs.Records.{recordSize}
 use Rattle.rules.specs.declared.Reply.{Reply}
 use Rattle.rules.specs.Settings.{standard}
@@ -42,7 +42,7 @@ use Rattle.steps.specs.Outcomes.{Outcome, goes, takenAs, freshOf, outcomeAt, li
 use Rattle.steps.specs.Post.{pieceOf, countIn}
 use Rattle.lines.specs.Survey.{linesIn, further, surveyed}
 use Rattle.lines.specs.Post.{Scans}
-use Rattle.lines.specs.Batches.{beginsSamples, samplesIn, AddPost, Takes, Gathered, Parts, GatherPost, batchAs, printedAs, TakeAllPost, BatchPost, PartPost, batchRoom, batchMost}
+use Rattle.lines.specs.Batches.{beginsSamples, samplesIn, AddPost, Takes, Gathered, Parts, GatherPost, batchAs, printedAs, TookAll, TakeAllPost, BatchPost, batchRoom, batchMost}
 use Rattle.steps.proofs.Answering.{Wrote, write-inside, said-most, turned-down, given-back, was-accepted, went-on, replies-wrote}
 use Rattle.lines.proofs.Scanning.{good-take, part, survey-first, Scanning, scanning-start, scanning-batch}
 use Rattle.lines.proofs.Laying.{laid-none, parts-more, Left, left-start, Next, next-line}
@@ -321,7 +321,7 @@ module _ (p : Processor) (T : Trace) (from to at : ℕ) (b : List ℕ) (room : a
   few none = omega arith
   few (running ω T₀) = omega (arith, fresh-most standard T₀ T)
 
-  pub all-refused : (k : ℕ) → t .answer ≡ Refused k → TakeAllPost p T from to at b (record { processor = t .processor; from = from; at = at }) b
+  pub all-refused : (k : ℕ) → t .answer ≡ Refused k → TookAll p T from to at b (record { processor = t .processor; from = from; at = at }) b
   all-refused k e =
       record {
         either = inl refl;
@@ -333,7 +333,7 @@ module _ (p : Processor) (T : Trace) (from to at : ℕ) (b : List ℕ) (room : a
       }
 
   pub all-accepted : (n : ℕ) → t .answer ≡ Accepted n → (e : ℕ) (b′ : List ℕ) → WritePost (firstLines n h) at b e b′
-      → TakeAllPost p T from to at b (record { processor = t .processor; from = to; at = e }) b′
+      → TookAll p T from to at b (record { processor = t .processor; from = to; at = e }) b′
   all-accepted n q e b′ w =
       record {
         either = inr refl;
@@ -363,7 +363,7 @@ batch-nothing p input from at b =
     }
 
 module _ (p : Processor) (input : List ℕ) (from to at : ℕ) (b : List ℕ) (room : at + batchMost ≤ length b) (T : Trace) (g : Gathered input from to T)
-    (r : Batched) (b′ : List ℕ) (post : TakeAllPost p T from to at b r b′) where
+    (r : Batched) (b′ : List ℕ) (post : TookAll p T from to at b r b′) where
   scans-by : (σ : Sweep) (m : Made σ p) (v : Answer) → takeAnswerAt σ T batchRoom ≡ v
       → Scans σ input from at b (record { scan = Rest; processor = r .processor; from = r .from; at = r .at }) b′
   scans-by σ m accepted e =
@@ -391,7 +391,7 @@ module _ (p : Processor) (input : List ℕ) (from to at : ℕ) (b : List ℕ) (r
         same = λ R. ap (λ (k : ℕ). surveyed (linesIn (drop k input ++ R)) σ) (sym (ap (λ (x : Batched). x .from) is));
       }
 
-  pub batch-post : BatchPost p input from at b r b′
+  batch-post : BatchPost p input from at b r b′
   batch-post =
       record {
         start = begins (post .either);
@@ -411,12 +411,33 @@ module _ (p : Processor) (input : List ℕ) (from to at : ℕ) (b : List ℕ) (r
 
 -- ---- one piece, or line after line
 
-pub part-nothing : (p : Processor) (T : Trace) (from to at : ℕ) (b : List ℕ) → PartPost p T from to at b (record { processor = p; from = from; at = at }) b
-part-nothing p T from to at b = record { either = inl refl; post = λ input g. batch-nothing p input from at b }
+module _ (p : Processor) (T : Trace) (from to at : ℕ) (b : List ℕ) where
+  pub all-without : length b < at + batchMost → TakeAllPost p T from to at b (record { processor = p; from = from; at = at }) b
+  all-without h = record { room = λ l. absurd (omega arith); no-room = λ l. (refl, refl) }
 
-pub part-taken : (p : Processor) (T : Trace) (from to at : ℕ) (b : List ℕ) → at + batchMost ≤ length b → (r : Batched) (b′ : List ℕ) → TakeAllPost p T from to at b r b′ → PartPost p T from to at b r b′
-part-taken p T from to at b room r b′ h =
-    record { either = h .either; post = λ input g. batch-post p input from to at b room T g r b′ h }
+  module _ (r : Batched) (b′ : List ℕ) where
+    pub all-with : at + batchMost ≤ length b → TookAll p T from to at b r b′ → TakeAllPost p T from to at b r b′
+    all-with h t = record { room = λ l. t; no-room = λ l. absurd (omega arith) }
+
+    module _ (h : TakeAllPost p T from to at b r b′) where
+      -- whether there is room
+      by-room : {A : Type 0} → (TookAll p T from to at b r b′ → at + batchMost ≤ length b → A) → ((r ≡ record { processor = p; from = from; at = at }) × (b′ ≡ b) → A) → A
+      by-room {A} f g = go (leb (at + batchMost) (length b)) refl
+        where
+          go : (t : Bool) → leb (at + batchMost) (length b) ≡ t → A
+          go true e =
+              let l = leb-true (at + batchMost) (length b) e in
+              f (h .room l) l
+          go false e = g (h .no-room (leb-false (at + batchMost) (length b) e))
+
+      pub all-either : (r .from ≡ from) ⊎ (r .from ≡ to)
+      all-either = by-room (λ t l. t .either) (λ n. inl (ap (λ (x : Batched). x .from) (n .0)))
+
+      -- the lines that say T are carried out, or nothing happens
+      pub all-batch : (input : List ℕ) → Gathered input from to T → BatchPost p input from at b r b′
+      all-batch input g =
+          by-room (λ t l. batch-post p input from to at b l T g r b′ t)
+          (λ n. subst (λ (x : Batched). BatchPost p input from at b x b′) (sym (n .0)) (subst (BatchPost p input from at b (record { processor = p; from = from; at = at })) (sym (n .1)) (batch-nothing p input from at b)))
 
 -- the lines up to place i are carried out, and the samples from place a on are those of the others
 pub record Going (p : Processor) (input : List ℕ) (from to at : ℕ) (flags values b₀ : List ℕ) (q : Processor) (i a place : ℕ) (b : List ℕ) : Type 0 where
@@ -442,7 +463,7 @@ module _ (p : Processor) (input : List ℕ) (from to at : ℕ) (flags values b�
       going-short s = part-short (drop a flags) (a + (end - i) / 4 - a) 4096 (omega (arith, going-next-line .fits))
 
       module _ (k : ℕ) (e : k ≡ a + (end - i) / 4) (r : Batched) (b′ : List ℕ) (size : length b′ ≡ length b)
-          (post : PartPost q (pieceOf (take (k - a) (drop a flags)) (take (k - a) (drop a values))) i end place b r b′) where
+          (post : TakeAllPost q (pieceOf (take (k - a) (drop a flags)) (take (k - a) (drop a values))) i end place b r b′) where
         n : Next input i to a flags values end ((end - i) / 4)
         n = next-line input i to a flags values (h .left) less end line
 
@@ -462,7 +483,7 @@ module _ (p : Processor) (input : List ℕ) (from to at : ℕ) (flags values b�
 
         pub going-taken : Scanning p input from at b₀ (r .processor) (r .from) (r .at) b′
         unfolding T
-        going-taken = scanning-batch p input from at b₀ q i place b (h .scanned) r b′ size (post .post input gathered)
+        going-taken = scanning-batch p input from at b₀ q i place b (h .scanned) r b′ size (all-batch q T i end place b r b′ post input gathered)
 
         -- nothing happened, or something that ends here
         pub going-stopped : r .from ≡ i → BatchPost p input from at b₀ (record { processor = r .processor; from = i; at = r .at }) b′
@@ -474,10 +495,11 @@ module _ (p : Processor) (input : List ℕ) (from to at : ℕ) (flags values b�
                 record { start = h .start; reach = s .reach; inside = s .inside; past-end = λ l. absurd (omega arith); scans = s .scans }
 
         pub going-on : (r .from ≡ i → ⊥) → Going p input from to at flags values b₀ (r .processor) end k (r .at) b′
+        unfolding T
         going-on z =
             record {
               start = omega (arith, h .start, line .some);
-              scanned = subst (λ (x : ℕ). Scanning p input from at b₀ (r .processor) x (r .at) b′) (at-end (post .either)) going-taken;
+              scanned = subst (λ (x : ℕ). Scanning p input from at b₀ (r .processor) x (r .at) b′) (at-end (all-either q T i end place b r b′ post)) going-taken;
               left = subst (λ (x : ℕ). Left input end to x flags values) (sym e) (n .others);
             }
           where

@@ -108,11 +108,16 @@ abbrev pub printedAs : Answer → Sweep → Trace → List ℕ
 printedAs accepted σ T = replyLines (freshOf σ T)
 printedAs (refused k) σ T = []
 
-pub record TakeAllPost (p : Processor) (T : Trace) (from to at : ℕ) (b : List ℕ) (r : Batched) (b′ : List ℕ) : Type 0 where
+pub record TookAll (p : Processor) (T : Trace) (from to at : ℕ) (b : List ℕ) (r : Batched) (b′ : List ℕ) : Type 0 where
   pub either : (r .from ≡ from) ⊎ (r .from ≡ to)
   pub inside : r .at ≤ length b
   pub result : (σ : Sweep) → Made σ p → r ≡ batchAs (takeAnswerAt σ T batchRoom) σ T p from to at
   pub output : (σ : Sweep) → Made σ p → b′ ≡ over-at (printedAs (takeAnswerAt σ T batchRoom) σ T) at b
+
+-- without room for 80 replies of 39 bytes nothing happens
+pub record TakeAllPost (p : Processor) (T : Trace) (from to at : ℕ) (b : List ℕ) (r : Batched) (b′ : List ℕ) : Type 0 where
+  pub room : at + batchMost ≤ length b → TookAll p T from to at b r b′
+  pub no-room : length b < at + batchMost → (r ≡ record { processor = p; from = from; at = at }) × (b′ ≡ b)
 
 -- the lines so far are carried out; behind the end of the output nothing happens
 pub record BatchPost (p : Processor) (input : List ℕ) (from at : ℕ) (b : List ℕ) (r : Batched) (b′ : List ℕ) : Type 0 where
@@ -121,8 +126,3 @@ pub record BatchPost (p : Processor) (input : List ℕ) (from at : ℕ) (b : Lis
   pub inside : at ≤ length b → r .at ≤ length b
   pub past-end : length b < at → (r ≡ record { processor = p; from = from; at = at }) × (b′ ≡ b)
   pub scans : (σ : Sweep) → Made σ p → Scans σ input from at b (record { scan = Rest; processor = r .processor; from = r .from; at = r .at }) b′
-
--- If the lines from `from` to before `to` say T, these are carried out, or nothing happens.
-pub record PartPost (p : Processor) (T : Trace) (from to at : ℕ) (b : List ℕ) (r : Batched) (b′ : List ℕ) : Type 0 where
-  pub either : (r .from ≡ from) ⊎ (r .from ≡ to)
-  pub post : (input : List ℕ) → Gathered input from to T → BatchPost p input from at b r b′

@@ -3,7 +3,7 @@ ghost use Prim.Native.Nat.{_+_, _≤_};
 ghost use mathlib.Core.Path.{_≡_};
 ghost use lib.ListN.{length};
 ghost use Rattle.steps.specs.Post.{countIn, pieceOf};
-ghost use Rattle.lines.specs.Batches.{beginsSamples, AddPost, Parts, GatherPost, TakeAllPost, PartPost, BatchPost, batchMost};
+ghost use Rattle.lines.specs.Batches.{beginsSamples, AddPost, Parts, GatherPost, TakeAllPost, BatchPost};
 use calls::Answer;
 use ends::End;
 use ends::line_end;
@@ -82,7 +82,7 @@ fn gather(input: &[u8], from: usize, flags: &mut [u8], values: &mut [u8]) -> Gat
     Gathering { end: i, n }
 }
 
-// Takes a piece and prints the replies; where the sweep does not take it, nothing happens.
+// Takes a piece that lines say and prints the replies; without room for these, and where the sweep does not take it, nothing happens.
 fn take_all(
     p: Processor,
     flags: &[u8],
@@ -92,9 +92,16 @@ fn take_all(
     out: &mut [u8],
     at: usize,
 ) -> Batched
-    requires { ⌜ (length (now flags) ≤ 4096) × (at + batchMost ≤ length (now out)) ⌝ }
+    requires { ⌜ length (now flags) ≤ 4096 ⌝ }
     ensures { λ r. ⌜ TakeAllPost p (pieceOf (now (flags .entry)) (now (values .entry))) from to at (now (out .entry)) r (now (out .exit)) ⌝ }
 {
+    if !has_room(MOST, out, at) {
+        return Batched {
+            processor: p,
+            from,
+            at,
+        };
+    }
     let mut handed = [0u8; ROOM];
     let t = take(p, flags, values, &mut handed);
     let answer = t.answer;
@@ -130,29 +137,6 @@ fn may_say_samples(input: &[u8], from: usize) -> bool
     (input[from] == 48) & (input[from + 1] == 50)
 }
 
-// Takes a piece that lines say, if there is room for its replies; where the sweep does not take it, nothing happens.
-fn take_part(
-    p: Processor,
-    flags: &[u8],
-    values: &[u8],
-    from: usize,
-    to: usize,
-    out: &mut [u8],
-    at: usize,
-) -> Batched
-    requires { ⌜ length (now flags) ≤ 4096 ⌝ }
-    ensures { λ r. ⌜ PartPost p (pieceOf (now (flags .entry)) (now (values .entry))) from to at (now (out .entry)) r (now (out .exit)) ⌝ }
-{
-    if !has_room(MOST, out, at) {
-        return Batched {
-            processor: p,
-            from,
-            at,
-        };
-    }
-    take_all(p, flags, values, from, to, out, at)
-}
-
 // Takes the samples of the lines from a place to before another, each line's part of the two slices as a piece, up to the first that is not
 // taken.
 fn take_lines(
@@ -182,7 +166,7 @@ fn take_lines(
             };
         };
         let b = a + (end - i) / 4;
-        let t = take_part(q, &flags[a..b], &values[a..b], i, end, out, place);
+        let t = take_all(q, &flags[a..b], &values[a..b], i, end, out, place);
         q = t.processor;
         place = t.at;
         if t.from == i {

@@ -4,7 +4,7 @@ use lib.ListN.{length}
 use borrow.Author.Tests.{not-false, leb-true}
 use Rattle.lines.specs.Batches.{batchMost}
 use Rattle.steps.proofs.Answering.{part-length}
-use Rattle.lines.proofs.Batching.{part-short, batch-nothing, batch-post, batch-then}
+use Rattle.lines.proofs.Batching.{part-short, batch-nothing, batch-then, all-batch}
 use native.Mathlib.Omega.{arith}
 use borrow.Author.Needs.{needs}
 use Rattle.lines.proofs.batch.batch.Statement.{statement}
@@ -54,9 +54,7 @@ slice-aggregate-take-all-2 : tie.Need-slice-aggregate-take-all-2
 slice-aggregate-take-all-2 c = part-length _ _ (omega (arith, c .before .before .before .before .gather .ensures .most, c .before .before .values2 .given))
 
 take-all-requires : tie.Need-take-all-requires
-take-all-requires c κs =
-    let a = c .before .before .before .before .before .before .before .before .before .before .before .before .before .before .before .args in
-    (part-short _ _ 4096 (c .before .before .before .before .before .gather .ensures .most), (leb-true (a .at + batchMost) (length (a .out .now)) (sym (c .before .before .before .before .before .before .before .before .before .before .before .has-room .ensures) ∙ not-false _ (c .before .before .before .before .before .before .before .before .before .before .if1 .left))))
+take-all-requires c κs = part-short _ _ 4096 (c .before .before .before .before .before .gather .ensures .most)
 
 same-length-3 : tie.Need-same-length-3
 same-length-3 c = search needs
@@ -64,8 +62,8 @@ same-length-3 c = search needs
 returns-3 : tie.Need-returns-3
 returns-3 c =
     let a = c .before .before .before .before .before .before .before .before .before .before .before .before .before .before .before .before .before .before .before .before .args in
-    let gather = c .before .before .before .before .before .before .before .before .before .before .gather in
-    batch-post (a .p) (a .input .now) (a .from) _ (a .at) (a .out .now) (leb-true (a .at + batchMost) (length (a .out .now)) (sym (c .before .before .before .before .before .before .before .before .before .before .before .before .before .before .before .before .has-room .ensures) ∙ not-false _ (c .before .before .before .before .before .before .before .before .before .before .before .before .before .before .before .if1 .left))) _ (gather .ensures .all) (c .before .before .before .before .take-all .result) _ (c .before .before .before .before .take-all .ensures)
+    let take-all = c .before .before .before .before .take-all in
+    all-batch (a .p) _ (a .from) _ (a .at) (a .out .now) (take-all .result) _ (take-all .ensures) (a .input .now) (c .before .before .before .before .before .before .before .before .before .before .gather .ensures .all)
 
 array-share-prefix-flags-2 : tie.Need-array-share-prefix-flags-2
 array-share-prefix-flags-2 c = search needs
@@ -82,8 +80,9 @@ slice-aggregate-take-lines-2 c = part-length _ _ (omega (arith, c .before .befor
 take-lines-requires : tie.Need-take-lines-requires
 take-lines-requires c κs =
     let a = c .before .before .before .before .before .before .before .before .before .before .before .before .before .before .before .before .before .before .before .before .before .before .before .args in
-    let gather = c .before .before .before .before .before .before .before .before .before .before .before .before .before .gather in
-    (part-short _ _ 4096 (gather .ensures .most), omega (arith, c .before .before .before .before .before .before .before .take-all .ensures .inside, c .before .before .before .before .before .before .out .given), gather .ensures .parts)
+    let take-all = c .before .before .before .before .before .before .before .take-all in
+    let room = leb-true (a .at + batchMost) (length (a .out .now)) (sym (c .before .before .before .before .before .before .before .before .before .before .before .before .before .before .before .before .before .before .before .has-room .ensures) ∙ not-false _ (c .before .before .before .before .before .before .before .before .before .before .before .before .before .before .before .before .before .before .if1 .left)) in
+    (part-short _ _ 4096 (c .before .before .before .before .before .before .before .before .before .before .before .before .before .gather .ensures .most), omega (arith, take-all .ensures .room room .inside, c .before .before .before .before .before .before .out .given), c .before .before .before .before .before .before .before .before .before .before .before .before .before .gather .ensures .parts)
 
 same-length-4 : tie.Need-same-length-4
 same-length-4 c = search needs
@@ -91,10 +90,9 @@ same-length-4 c = search needs
 returns-4 : tie.Need-returns-4
 returns-4 c =
     let a = c .before .before .before .before .before .before .before .before .before .before .before .before .before .before .before .before .before .before .before .before .before .before .before .before .before .before .args in
-    let gather = c .before .before .before .before .before .before .before .before .before .before .before .before .before .before .before .before .gather in
     let take-all = c .before .before .before .before .before .before .before .before .before .before .take-all in
-    let room = (leb-true (a .at + batchMost) (length (a .out .now)) (sym (c .before .before .before .before .before .before .before .before .before .before .before .before .before .before .before .before .before .before .before .before .before .before .has-room .ensures) ∙ not-false _ (c .before .before .before .before .before .before .before .before .before .before .before .before .before .before .before .before .before .before .before .before .before .if1 .left))) in
-    batch-then (a .p) (a .input .now) (a .from) (a .at) (a .out .now) (omega arith) (take-all .result) _ (omega (arith, c .before .before .before .before .before .before .before .before .before .out .given)) (batch-post (a .p) (a .input .now) (a .from) _ (a .at) (a .out .now) room _ (gather .ensures .all) (take-all .result) _ (take-all .ensures)) (c .before .before .before .before .before .before .if3 .left) (c .before .before .take-lines .result) _ (omega (arith, c .before .out2 .given)) (c .before .before .take-lines .ensures)
+    let room = leb-true (a .at + batchMost) (length (a .out .now)) (sym (c .before .before .before .before .before .before .before .before .before .before .before .before .before .before .before .before .before .before .before .before .before .before .has-room .ensures) ∙ not-false _ (c .before .before .before .before .before .before .before .before .before .before .before .before .before .before .before .before .before .before .before .before .before .if1 .left)) in
+    batch-then (a .p) (a .input .now) (a .from) (a .at) (a .out .now) (omega arith) (take-all .result) _ (omega (arith, c .before .before .before .before .before .before .before .before .before .out .given)) (all-batch (a .p) _ (a .from) _ (a .at) (a .out .now) (take-all .result) _ (take-all .ensures) (a .input .now) (c .before .before .before .before .before .before .before .before .before .before .before .before .before .before .before .before .gather .ensures .all)) (c .before .before .before .before .before .before .if3 .left) (c .before .before .take-lines .result) _ (omega (arith, c .before .out2 .given)) (c .before .before .take-lines .ensures)
 
 pub batch-spec : {M : Type 1} → statement M
 batch-spec =

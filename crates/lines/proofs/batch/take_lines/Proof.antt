@@ -51,34 +51,34 @@ add-b c =
     let l = c .before .before .before .before .before .loop in
     omega (arith, (going-next-line (a .p) (a .input .now) (a .from) (a .to) (a .at) (a .flags .now) (a .values .now) (a .out .now) (pre .1) (l .q) (l .i) (l .a) (l .place) (l .out) (l .inv) (omega arith) _ (end-at (a .input .now) (l .i) _ _ (c .before .e .given .1) (c .before .before .before .line-end .ensures))) .fits)
 
-sub-take-part : tie.Need-sub-take-part Inv-loop μ-loop
-sub-take-part c = omega arith
+sub-take-all : tie.Need-sub-take-all Inv-loop μ-loop
+sub-take-all c = omega arith
 
-part-take-part-start : tie.Need-part-take-part-start Inv-loop μ-loop
-part-take-part-start c = omega arith
+part-take-all-start : tie.Need-part-take-all-start Inv-loop μ-loop
+part-take-all-start c = omega arith
 
-part-take-part-end : tie.Need-part-take-part-end Inv-loop μ-loop
-part-take-part-end c =
+part-take-all-end : tie.Need-part-take-all-end Inv-loop μ-loop
+part-take-all-end c =
     let a = c .before .before .before .before .before .before .before .before .before .before .args in
     let pre = c .before .before .before .before .before .before .before .before .before .before .pre in
     let l = c .before .before .before .before .before .loop in
     omega (arith, (going-next-line (a .p) (a .input .now) (a .from) (a .to) (a .at) (a .flags .now) (a .values .now) (a .out .now) (pre .1) (l .q) (l .i) (l .a) (l .place) (l .out) (l .inv) (omega arith) _ (end-at (a .input .now) (l .i) _ _ (c .before .e .given .1) (c .before .before .before .line-end .ensures))) .fits)
 
-sub-take-part-2 : tie.Need-sub-take-part-2 Inv-loop μ-loop
-sub-take-part-2 c = omega arith
+sub-take-all-2 : tie.Need-sub-take-all-2 Inv-loop μ-loop
+sub-take-all-2 c = omega arith
 
-part-take-part-start-2 : tie.Need-part-take-part-start-2 Inv-loop μ-loop
-part-take-part-start-2 c = omega arith
+part-take-all-start-2 : tie.Need-part-take-all-start-2 Inv-loop μ-loop
+part-take-all-start-2 c = omega arith
 
-part-take-part-end-2 : tie.Need-part-take-part-end-2 Inv-loop μ-loop
-part-take-part-end-2 c =
+part-take-all-end-2 : tie.Need-part-take-all-end-2 Inv-loop μ-loop
+part-take-all-end-2 c =
     let a = c .before .before .before .before .before .before .before .before .before .before .before .args in
     let pre = c .before .before .before .before .before .before .before .before .before .before .before .pre in
     let l = c .before .before .before .before .before .before .loop in
     omega (arith, (going-next-line (a .p) (a .input .now) (a .from) (a .to) (a .at) (a .flags .now) (a .values .now) (a .out .now) (pre .1) (l .q) (l .i) (l .a) (l .place) (l .out) (l .inv) (omega arith) _ (end-at (a .input .now) (l .i) _ _ (c .before .before .e .given .1) (c .before .before .before .before .line-end .ensures))) .value-fits)
 
-take-part-requires : tie.Need-take-part-requires Inv-loop μ-loop
-take-part-requires c κs =
+take-all-requires : tie.Need-take-all-requires Inv-loop μ-loop
+take-all-requires c κs =
     let a = c .before .before .before .before .before .before .before .before .before .before .before .before .before .args in
     let pre = c .before .before .before .before .before .before .before .before .before .before .before .before .before .pre in
     let l = c .before .before .before .before .before .before .before .before .loop in
@@ -92,7 +92,7 @@ returns-2 c =
     let a = c .before .before .before .before .before .before .before .before .before .before .before .before .before .before .before .before .before .before .before .args in
     let pre = c .before .before .before .before .before .before .before .before .before .before .before .before .before .before .before .before .before .before .before .pre in
     let l = c .before .before .before .before .before .before .before .before .before .before .before .before .before .before .loop in
-    going-stopped (a .p) (a .input .now) (a .from) (a .to) (a .at) (a .flags .now) (a .values .now) (a .out .now) (pre .1) (l .q) (l .i) (l .a) (l .place) (l .out) (l .inv) (omega (arith, c .before .before .before .before .before .before .before .before .before .before .before .before .before .loop-test .taken)) _ (end-at (a .input .now) (l .i) _ _ (c .before .before .before .before .before .before .before .before .before .before .e .given .1) (c .before .before .before .before .before .before .before .before .before .before .before .before .line-end .ensures)) _ refl (c .before .before .before .before .before .take-part .result) _ (omega (arith, c .before .before .before .before .out .given)) (c .before .before .before .before .before .take-part .ensures) (c .if1 .taken)
+    going-stopped (a .p) (a .input .now) (a .from) (a .to) (a .at) (a .flags .now) (a .values .now) (a .out .now) (pre .1) (l .q) (l .i) (l .a) (l .place) (l .out) (l .inv) (omega (arith, c .before .before .before .before .before .before .before .before .before .before .before .before .before .loop-test .taken)) _ (end-at (a .input .now) (l .i) _ _ (c .before .before .before .before .before .before .before .before .before .before .e .given .1) (c .before .before .before .before .before .before .before .before .before .before .before .before .line-end .ensures)) _ refl (c .before .before .before .before .before .take-all .result) _ (omega (arith, c .before .before .before .before .out .given)) (c .before .before .before .before .before .take-all .ensures) (c .if1 .taken)
 
 loop-less : tie.Need-loop-less Inv-loop μ-loop
 loop-less c =
@@ -105,7 +105,7 @@ loop-again c =
     let a = c .before .before .before .before .before .before .before .before .before .before .before .before .before .before .before .before .before .before .before .args in
     let pre = c .before .before .before .before .before .before .before .before .before .before .before .before .before .before .before .before .before .before .before .pre in
     let l = c .before .before .before .before .before .before .before .before .before .before .before .before .before .before .loop in
-    going-on (a .p) (a .input .now) (a .from) (a .to) (a .at) (a .flags .now) (a .values .now) (a .out .now) (pre .1) (l .q) (l .i) (l .a) (l .place) (l .out) (l .inv) (omega (arith, c .before .before .before .before .before .before .before .before .before .before .before .before .before .loop-test .taken)) _ (end-at (a .input .now) (l .i) _ _ (c .before .before .before .before .before .before .before .before .before .before .e .given .1) (c .before .before .before .before .before .before .before .before .before .before .before .before .line-end .ensures)) _ refl (c .before .before .before .before .before .take-part .result) _ (omega (arith, c .before .before .before .before .out .given)) (c .before .before .before .before .before .take-part .ensures) (c .if1 .left)
+    going-on (a .p) (a .input .now) (a .from) (a .to) (a .at) (a .flags .now) (a .values .now) (a .out .now) (pre .1) (l .q) (l .i) (l .a) (l .place) (l .out) (l .inv) (omega (arith, c .before .before .before .before .before .before .before .before .before .before .before .before .before .loop-test .taken)) _ (end-at (a .input .now) (l .i) _ _ (c .before .before .before .before .before .before .before .before .before .before .e .given .1) (c .before .before .before .before .before .before .before .before .before .before .before .before .line-end .ensures)) _ refl (c .before .before .before .before .before .take-all .result) _ (omega (arith, c .before .before .before .before .out .given)) (c .before .before .before .before .before .take-all .ensures) (c .if1 .left)
 
 same-length-3 : tie.Need-same-length-3 Inv-loop μ-loop
 same-length-3 c = c .before .loop .inv .scanned .size
@@ -131,13 +131,13 @@ take-lines-spec =
     returns
     sub-b
     add-b
-    sub-take-part
-    part-take-part-start
-    part-take-part-end
-    sub-take-part-2
-    part-take-part-start-2
-    part-take-part-end-2
-    take-part-requires
+    sub-take-all
+    part-take-all-start
+    part-take-all-end
+    sub-take-all-2
+    part-take-all-start-2
+    part-take-all-end-2
+    take-all-requires
     same-length-2
     returns-2
     loop-less
