@@ -17,7 +17,7 @@ use Rattle.rules.specs.Buffers.{over, over-at}
 use Rattle.rules.specs.Machine.{final}
 use Rattle.rules.specs.Records.{records, recordSize, replies, totals, firstRecords}
 use Rattle.rules.specs.Calls.{Answer, accepted, openAnswer, mostReplies, mostLeft, handed, fresh, rest}
-use Rattle.rules.proofs.Answers.{standard-allowed, took, first-records}
+use Rattle.rules.proofs.Answers.{standard-allowed, took, first-records, join-nothing}
 use Rattle.rules.proofs.HandingOut.{fresh-most, rest-most}
 use Rattle.rules.proofs.Joining.{records-length}
 use Rattle.processor.specs.declared.Processor.{Processor}
@@ -164,10 +164,7 @@ module _ (ω : Opening) (opens : openAnswer ω ≡ accepted) where
         ds-chain = chain-more (h .calls) (openOf ω .processor) d (h .chain) tt (subst (λ (q : Processor). Meets q d) (sym (h .leaves)) post)
 
         ds-joined : joinedTrace (h .calls ++ (d ∷ [])) ≡ T
-        ds-joined = joined-more (h .calls) d ∙ ap (λ (S : Trace). S ⧺ nothing) (h .joined) ∙ unit
-          where
-            unit : T ⧺ nothing ≡ T
-            unit = λ i. record { flags = append-nil (T .flags) i; values = append-nil (T .values) i }
+        ds-joined = joined-more (h .calls) d ∙ ap (λ (S : Trace). S ⧺ nothing) (h .joined) ∙ join-nothing T
 
         ds-handed : allHandedOut (h .calls ++ (d ∷ [])) ≡ allHandedOut (h .calls) ++ records R
         ds-handed = handed-more (h .calls) d ∙ ap (λ (l : List ℕ). allHandedOut (h .calls) ++ l) left-handed

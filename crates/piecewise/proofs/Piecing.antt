@@ -1,22 +1,19 @@
 -- The pieces of a trace that nothing turns down: none of their takes is refused, and neither is the close.
-use Prim.Native.Nat.{ℕ, zero, suc, _+_, _-_, _*_, _/_, _≤_, min}
+use Prim.Native.Nat.{ℕ, _+_, _-_, _*_, _/_, _≤_, min}
 use native.Mathlib.Omega.{arith}
 use mathlib.Core.Path.{_≡_, refl, sym, ap, _∙_, subst}
-use mathlib.Core.Bool.{true, false, _&&_}
-use mathlib.Core.List.{List, [], _∷_, _++_}
-use lib.Dec.{leb}
+use mathlib.Core.Bool.{true, false}
+use mathlib.Core.List.{List}
 use lib.ListN.{length, take, drop, replicate, length-drop, take-append-drop}
-use lib.Seq.{take-add, length-take-le, take-all}
-use borrow.Author.Tests.{leb-true, le-ltb, eq-eqb, not-false}
+use lib.Seq.{length-take-le}
+use borrow.Author.Tests.{le-ltb, eq-eqb}
 use borrow.Rule.Slice.PartMut.{midOf, putMid}
 use Rattle.rules.specs.declared.Opening.{Opening}
 use Rattle.rules.specs.Lists.{any, All}
-use Rattle.rules.specs.Samples.{Trace, nothing, _⧺_, bad, pieceLimit, sweepLimit}
+use Rattle.rules.specs.Samples.{Trace, nothing, bad, pieceLimit, sweepLimit}
 use Rattle.rules.specs.Settings.{standard}
 use Rattle.rules.specs.Records.{recordSize, totalsSize}
-use Rattle.rules.specs.Calls.{Answer, accepted, refused, openChecks, takeAnswer, closeAnswer, takeRoom, closeRoom, fresh}
-use Rattle.rules.proofs.Truth.{and-right}
-use Rattle.rules.proofs.Checks.{none-holds}
+use Rattle.rules.specs.Calls.{Answer, accepted, refused, takeAnswer, closeAnswer, takeRoom, closeRoom, fresh}
 use Rattle.rules.proofs.ListLaws.{any-first, any-second}
 use Rattle.rules.proofs.HandingOut.{fresh-most}
 use Rattle.processor.specs.declared.Processor.{Processor}
@@ -25,42 +22,13 @@ use Rattle.calls.specs.declared.Taken.{Taken}
 use Rattle.calls.specs.declared.Closed.{Closed}
 use Rattle.calls.specs.declared.Answer.the-variants.{Accepted}
 use Rattle.calls.specs.Post.{openOf, takeAnswerAt, closeAnswerAt, TakePost, ClosePost}
-use Rattle.refusals.specs.Whole.{lentChecks, wholeAnswer}
+use Rattle.refusals.specs.Whole.{wholeAnswer}
 use Rattle.takes.specs.Post.{part}
+use Rattle.takes.proofs.Taking.{all-take, all-drop, upTo, between, up-more, up-all}
 use Rattle.whole.proofs.Answering.{Clear, clear}
 use Rattle.piecewise.specs.declared.Swept.{Swept}
 use Rattle.piecewise.specs.Post.{countIn, sweptAs, bufferAs, ByCallsPost, Calls}
 use Rattle.piecewise.proofs.Growing.{none-yet, few, count-is, take-more, left-few, totals-are, buffer-all, count-all}
-
--- ---- parts of a trace
-
--- the first i ticks, and those from i to before e
-abbrev pub upTo : ℕ → Trace → Trace
-upTo i T = record { flags = take i (T .flags); values = take i (T .values) }
-
-abbrev pub between : ℕ → ℕ → Trace → Trace
-between i e T = record { flags = part i e (T .flags); values = part i e (T .values) }
-
-up-part : (a e : ℕ) (l : List ℕ) → a ≤ e → take a l ++ part a e l ≡ take e l
-up-part a e l h =
-    let z : a + (e - a) ≡ e = omega arith in
-    sym (take-add a (e - a) l) ∙ ap (λ (n : ℕ). take n l) z
-
-up-more : (T : Trace) (i e : ℕ) → i ≤ e → upTo i T ⧺ between i e T ≡ upTo e T
-up-more T i e h =
-    let f = up-part i e (T .flags) h in
-    let v = up-part i e (T .values) h in
-    λ j. record { flags = f j; values = v j }
-
-all-take : (n : ℕ) (l : List ℕ) → All (λ v. v ≤ 255) l → All (λ v. v ≤ 255) (take n l)
-all-take zero l h = tt
-all-take (suc n) [] h = tt
-all-take (suc n) (x ∷ l) h = (h .0, all-take n l (h .1))
-
-all-drop : (n : ℕ) (l : List ℕ) → All (λ v. v ≤ 255) l → All (λ v. v ≤ 255) (drop n l)
-all-drop zero l h = h
-all-drop (suc n) [] h = tt
-all-drop (suc n) (x ∷ l) h = all-drop n l (h .1)
 
 -- a part of a list with no bad byte has none
 good-part : (i e : ℕ) (l : List ℕ) → any bad l ≡ false → any bad (part i e l) ≡ false
@@ -103,16 +71,6 @@ turned-away ω T piece b r n v is =
 module _ (ω : Opening) (T : Trace) (piece : ℕ) (b₀ : List ℕ) (ok : wholeAnswer ω T piece (length b₀) totalsSize ≡ accepted) where
   shows : Clear ω T piece b₀ (replicate {A = ℕ} totalsSize 0)
   shows = clear ω T piece b₀ (replicate {A = ℕ} totalsSize 0) ok
-
-  limit : piece ≤ pieceLimit
-  unfolding wholeAnswer
-  limit =
-      let h = none-holds (openChecks ω ++ lentChecks T piece (length b₀) totalsSize) ok in
-      leb-true piece pieceLimit (and-right (leb 1 piece) (leb piece pieceLimit) (not-false (leb 1 piece && leb piece pieceLimit) (h .1 .1 .1 .0)))
-
-  good : any bad (T .flags) ≡ false
-  unfolding wholeAnswer
-  good = none-holds (openChecks ω ++ lentChecks T piece (length b₀) totalsSize) ok .1 .1 .1 .1 .1 .1 .0
 
   pub some : 1 ≤ piece
   some = shows .some
@@ -160,8 +118,8 @@ module _ (ω : Opening) (T : Trace) (piece : ℕ) (b₀ : List ℕ) (ok : wholeA
       accepts : takeAnswerAt (running ω (upTo i T)) (between i end T) (length b - at) ≡ accepted
       unfolding takeAnswerAt
       accepts =
-          take-clear (length (take i (T .flags))) (between i end T) (length b - at) alike-P (omega (arith, size-P, step, limit))
-          (omega (arith, size-P, size-i, here, shows .short)) room-P (good-part i end (T .flags) good)
+          take-clear (length (take i (T .flags))) (between i end T) (length b - at) alike-P (omega (arith, size-P, step, shows .limit))
+          (omega (arith, size-P, size-i, here, shows .short)) room-P (good-part i end (T .flags) (shows .good))
 
       bytes-P : All (λ v. v ≤ 255) (part i end (T .values))
       bytes-P = all-take (end - i) (drop i (T .values)) (all-drop i (T .values) bytes)
@@ -186,10 +144,7 @@ module _ (ω : Opening) (T : Trace) (piece : ℕ) (b₀ : List ℕ) (ok : wholeA
 
     -- all are taken
     pub pieces-end : length (T .flags) ≤ i → Calls ω T b₀ p at b
-    pieces-end l =
-        let f : take i (T .flags) ≡ T .flags = take-all i (T .flags) l in
-        let v : take i (T .values) ≡ T .values = take-all i (T .values) (omega (arith, l, alike)) in
-        subst (λ (R : Trace). Calls ω R b₀ p at b) (λ j. record { flags = f j; values = v j }) (h .taken)
+    pieces-end l = subst (λ (R : Trace). Calls ω R b₀ p at b) (up-all T i (omega (arith, l, h .reach)) alike) (h .taken)
 
   -- ---- the close
 

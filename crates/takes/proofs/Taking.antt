@@ -36,12 +36,12 @@ use Rattle.takes.proofs.Pieces.{Reaches, Fits, TakesAt, q, piece-fed, p
 
 -- ---- lists
 
-all-take : (n : ℕ) (l : List ℕ) → All (λ v. v ≤ 255) l → All (λ v. v ≤ 255) (take n l)
+pub all-take : (n : ℕ) (l : List ℕ) → All (λ v. v ≤ 255) l → All (λ v. v ≤ 255) (take n l)
 all-take zero l h = tt
 all-take (suc n) [] h = tt
 all-take (suc n) (x ∷ l) h = (h .0, all-take n l (h .1))
 
-all-drop : (n : ℕ) (l : List ℕ) → All (λ v. v ≤ 255) l → All (λ v. v ≤ 255) (drop n l)
+pub all-drop : (n : ℕ) (l : List ℕ) → All (λ v. v ≤ 255) l → All (λ v. v ≤ 255) (drop n l)
 all-drop zero l h = h
 all-drop (suc n) [] h = tt
 all-drop (suc n) (x ∷ l) h = all-drop n l (h .1)
@@ -68,20 +68,20 @@ handed-most T =
     omega (arith, ap length e, length-append (handed standard nothing) (fresh standard nothing T), ap length none-due, fresh-most standard nothing T)
 
 -- the first i ticks, and those from i to before e
-abbrev upTo : ℕ → Trace → Trace
+abbrev pub upTo : ℕ → Trace → Trace
 upTo i T = record { flags = take i (T .flags); values = take i (T .values) }
 
-abbrev between : ℕ → ℕ → Trace → Trace
+abbrev pub between : ℕ → ℕ → Trace → Trace
 between i e T = record { flags = take (e - i) (drop i (T .flags)); values = take (e - i) (drop i (T .values)) }
 
-up-more : (T : Trace) (i e : ℕ) → i ≤ e → upTo i T ⧺ between i e T ≡ upTo e T
+pub up-more : (T : Trace) (i e : ℕ) → i ≤ e → upTo i T ⧺ between i e T ≡ upTo e T
 up-more T i e h =
     let q : i + (e - i) ≡ e = omega arith in
     let f : take i (T .flags) ++ take (e - i) (drop i (T .flags)) ≡ take e (T .flags) = sym (take-add i (e - i) (T .flags)) ∙ ap (λ (n : ℕ). take n (T .flags)) q in
     let v : take i (T .values) ++ take (e - i) (drop i (T .values)) ≡ take e (T .values) = sym (take-add i (e - i) (T .values)) ∙ ap (λ (n : ℕ). take n (T .values)) q in
     λ j. record { flags = f j; values = v j }
 
-up-all : (T : Trace) (n : ℕ) → n ≡ length (T .flags) → length (T .flags) ≡ length (T .values) → upTo n T ≡ T
+pub up-all : (T : Trace) (n : ℕ) → n ≡ length (T .flags) → length (T .flags) ≡ length (T .values) → upTo n T ≡ T
 up-all T n e a =
     let f : take n (T .flags) ≡ T .flags = take-all n (T .flags) (omega (arith, e)) in
     let v : take n (T .values) ≡ T .values = take-all n (T .values) (omega (arith, e, a)) in

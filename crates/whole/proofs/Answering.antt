@@ -2,7 +2,7 @@
 use Prim.Native.Nat.{ℕ, _-_, _*_, _%_, _≤_, _<_}
 use native.Mathlib.Omega.{arith}
 use mathlib.Core.Path.{_≡_, sym, ap, _∙_}
-use mathlib.Core.Bool.{_&&_}
+use mathlib.Core.Bool.{false, _&&_}
 use mathlib.Core.List.{List, _++_}
 use lib.Dec.{leb, ltb, eqb}
 use lib.ListN.{length, length-append}
@@ -10,13 +10,13 @@ use borrow.Author.Tests.{leb-true, ltb-false, eqb-true, not-false}
 use Rattle.rules.specs.declared.Opening.{Opening}
 use Rattle.rules.specs.declared.Reply.{Reply}
 use Rattle.rules.specs.Settings.{standard}
-use Rattle.rules.specs.Lists.{All}
-use Rattle.rules.specs.Samples.{Trace, nothing, pieceLimit, sweepLimit}
+use Rattle.rules.specs.Lists.{any, All}
+use Rattle.rules.specs.Samples.{Trace, nothing, bad, pieceLimit, sweepLimit}
 use Rattle.rules.specs.Buffers.{over, over-at}
 use Rattle.rules.specs.Machine.{final}
 use Rattle.rules.specs.Records.{recordSize, totalsSize, records, replies}
 use Rattle.rules.specs.Calls.{Answer, accepted, refused, openChecks, openAnswer, handed, rest}
-use Rattle.rules.proofs.Truth.{and-left, or-left, or-right}
+use Rattle.rules.proofs.Truth.{and-left, and-right, or-left, or-right}
 use Rattle.rules.proofs.Checks.{none-holds, all-skip}
 use Rattle.rules.proofs.Joining.{handed-rest, records-append, records-length}
 use Rattle.rules.proofs.HandingOut.{rest-most}
@@ -48,9 +48,11 @@ pub record Clear (ω : Opening) (T : Trace) (piece : ℕ) (b c : List ℕ) : Typ
   pub opens : openAnswer ω ≡ accepted
   pub alike : length (T .flags) ≡ length (T .values)
   pub some : 1 ≤ piece
+  pub limit : piece ≤ pieceLimit
   pub short : length (T .flags) ≤ sweepLimit
   pub room : wholeRoom (length (T .flags)) ≤ length b
   pub totals-room : totalsSize ≤ length c
+  pub good : any bad (T .flags) ≡ false
   pub is-accepted : wholeAnswer ω T piece (length b) (length c) ≡ accepted
 
 pub clear : (ω : Opening) (T : Trace) (piece : ℕ) (b c : List ℕ) → wholeAnswer ω T piece (length b) (length c) ≡ accepted → Clear ω T piece b c
@@ -62,13 +64,16 @@ clear ω T piece b c e =
     let l = h .1 .1 in
     let few = ltb (length b) (wholeRoom n) in
     let none = ltb (length c) totalsSize in
+    let sized = not-false (leb 1 piece && leb piece pieceLimit) (l .1 .0) in
     record {
       opens = all-skip (openChecks ω) (h .0, (h .1 .0, tt));
       alike = eqb-true n k (not-false (eqb n k) (l .0));
-      some = leb-true 1 piece (and-left (leb 1 piece) (leb piece pieceLimit) (not-false (leb 1 piece && leb piece pieceLimit) (l .1 .0)));
+      some = leb-true 1 piece (and-left (leb 1 piece) (leb piece pieceLimit) sized);
+      limit = leb-true piece pieceLimit (and-right (leb 1 piece) (leb piece pieceLimit) sized);
       short = ltb-false sweepLimit n (l .1 .1 .0);
       room = ltb-false (length b) (wholeRoom n) (or-left few none (l .1 .1 .1 .0));
       totals-room = ltb-false (length c) totalsSize (or-right few none (l .1 .1 .1 .0));
+      good = l .1 .1 .1 .1 .0;
       is-accepted = e;
     }
 
