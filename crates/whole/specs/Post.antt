@@ -33,6 +33,10 @@ pub record WholePost (ω : Opening) (T : Trace) (piece : ℕ) (b c : List ℕ) (
   pub recordBytes : b′ ≡ recordsOf (wholeAnswer ω T piece (length b) (length c)) T b
   pub totalBytes : c′ ≡ totalsOf (wholeAnswer ω T piece (length b) (length c)) T c
 
+-- the same for mode and azimuth as numbers
+abbrev pub WholeByNumbers : (mode azimuth : ℕ) (T : Trace) (piece : ℕ) (b c : List ℕ) (r : ℕ) (b′ c′ : List ℕ) → Type 0
+WholeByNumbers mode azimuth T piece b c r b′ c′ = WholePost (record { mode = mode; azimuth = azimuth }) T piece b c r b′ c′
+
 -- ---- the close
 
 pub record CloseAtPost (p : Processor) (at : ℕ) (b c : List ℕ) (r : ℕ) (b′ c′ : List ℕ) : Type 0 where

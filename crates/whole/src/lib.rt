@@ -5,7 +5,7 @@ ghost use lib.ListN.{length};
 ghost use Rattle.rules.specs.Records.{totalsSize};
 ghost use Rattle.refusals.specs.Whole.{wholeAnswer};
 ghost use Rattle.rules.specs.Samples.{lent};
-ghost use Rattle.whole.specs.Post.{CloseAtPost, WholePost};
+ghost use Rattle.whole.specs.Post.{CloseAtPost, WholePost, WholeByNumbers};
 ghost use Rattle.rules.specs.Calls.{accepted};
 ghost use Rattle.calls.specs.Post.{openOf};
 ghost use Rattle.rules.specs.Buffers.{over};
@@ -92,7 +92,7 @@ pub extern "C" fn whole_sweep(
     out: &mut [u8],
     totals: &mut [u8],
 ) -> u32
-    ensures { λ r. ⌜ WholePost (record { mode = mode; azimuth = azimuth }) (lent (now (flags .entry)) (now (values .entry))) piece (now (out .entry)) (now (totals .entry)) r (now (out .exit)) (now (totals .exit)) ⌝ }
+    ensures { λ r. ⌜ WholeByNumbers mode azimuth (lent (now (flags .entry)) (now (values .entry))) piece (now (out .entry)) (now (totals .entry)) r (now (out .exit)) (now (totals .exit)) ⌝ }
 {
     let opening = Opening { mode, azimuth };
     let number = whole_refusal(opening, flags, values, piece, out, totals);
