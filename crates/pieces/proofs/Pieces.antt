@@ -9,7 +9,7 @@ use lib.Seq.{getD-take, take-append-add, length-take-le}
 use Rattle.rules.specs.Records.{recordSize}
 use Rattle.rules.specs.Settings.{standard}
 use Rattle.rules.specs.Lists.{All}
-use Rattle.rules.specs.Samples.{Trace, lent, _⧺_}
+use Rattle.rules.specs.Samples.{Trace, lent, sweepLimit, _⧺_}
 use Rattle.rules.specs.Edges.{stands, edgeAt}
 use Rattle.rules.specs.Calls.{fresh, silence}
 use Rattle.rules.proofs.ListLaws.{all-append}
@@ -17,20 +17,36 @@ use Rattle.rules.proofs.Apart.{edge-end}
 use Rattle.rules.proofs.Joining.{fresh-join}
 use Rattle.rules.proofs.PastEnd.{zeros-alike, edge-silence, rest-silence}
 use Rattle.rules.proofs.Answers.{standard-allowed}
+use Rattle.places.specs.Places.{machineOf}
+use Rattle.front.specs.Words.{frontOf, recentOf}
 use Rattle.front.specs.Post.{Reads, valueOf}
 use Rattle.front.proofs.ValueLaws.{value-law}
 use Rattle.processor.specs.declared.Progress.{Progress}
-use Rattle.blocks.specs.Steps.{Bounded}
+use Rattle.processor.specs.Arrays.{machineAt}
+use Rattle.blocks.specs.Steps.{Bounded, stateAt}
 use Rattle.blocks.specs.Feeding.{upTo, Enters, BlocksPost}
-use Rattle.pieces.specs.Feeding.{Begins, FeedPost, Ends, DrainPost}
+use Rattle.pieces.specs.Feeding.{Ends, DrainPost}
 
 all-take : (n : ℕ) (l : List ℕ) → All (λ v. v ≤ 255) l → All (λ v. v ≤ 255) (take n l)
 all-take zero l h = tt
 all-take (suc n) [] h = tt
 all-take (suc n) (x ∷ l) h = (h .0, all-take n l (h .1))
 
--- 64 ticks are a whole word
 -- ---- a piece
+
+-- o is where a piece of flags and values begins, behind the trace T; the buffer b₀ has room for the records that the piece lets out
+pub record Begins (T : Trace) (o : Progress) (recent : List ℕ) (base : ℕ) (flags values b₀ : List ℕ) : Type 0 where
+  pub front : o .front ≡ frontOf (T .flags)
+  pub machine : machineAt o ≡ machineOf (stateAt T (length (T .flags) - 178))
+  pub place : o .at ≡ 0
+  pub kept : recent ≡ recentOf (T .values)
+  pub ticks : length (T .flags) ≡ base
+  pub alike : length (T .flags) ≡ length (T .values)
+  pub alike-piece : length flags ≡ length values
+  pub bytes : All (λ v. v ≤ 255) (T .values)
+  pub bytes-piece : All (λ v. v ≤ 255) values
+  pub limit : base + length flags ≤ sweepLimit
+  pub room : recordSize * length (fresh standard T (lent flags values)) ≤ length b₀
 
 module _ (T : Trace) (o : Progress) (recent : List ℕ) (base : ℕ) (flags values b₀ : List ℕ) (g : Begins T o recent base flags values b₀) where
   -- the trace up to tick n of the piece
@@ -82,13 +98,6 @@ module _ (T : Trace) (o : Progress) (recent : List ℕ) (base : ℕ) (flags valu
       }
 
 -- ---- the piece goes through
-
-module _ (o : Progress) (recent : List ℕ) (base : ℕ) (flags values b₀ : List ℕ) where
-  pub feed-past : 32768 < base + length flags → FeedPost o recent base flags values b₀ o b₀
-  feed-past h = record { same = refl; past = λ l. (refl, refl); result = λ T g. absurd (omega (arith, g .limit)) }
-
-  pub feed-within : (y : Progress) (b : List ℕ) → base + length flags ≤ 32768 → BlocksPost o recent base flags values b₀ y b → FeedPost o recent base flags values b₀ y b
-  feed-within y b l h = record { same = h .same; past = λ m. absurd (omega arith); result = λ T g. h .result T (enters-piece T o recent base flags values b₀ g) }
 
 -- ---- the ticks past the end
 

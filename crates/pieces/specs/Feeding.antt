@@ -1,42 +1,18 @@
--- What the functions of a piece answer, for the trace that their words and values belong to.
-use Prim.Native.Nat.{ℕ, _+_, _-_, _*_, _≤_, _<_}
+-- What the ticks past the end make of the trace that words and values belong to.
+use Prim.Native.Nat.{ℕ, _-_, _*_, _≤_}
 use mathlib.Core.List.{List}
 use mathlib.Core.Path.{_≡_}
 use lib.ListN.{length}
 use Rattle.rules.specs.Settings.{standard}
 use Rattle.rules.specs.Lists.{All}
-use Rattle.rules.specs.Samples.{Trace, lent, sweepLimit}
+use Rattle.rules.specs.Samples.{Trace, sweepLimit}
 use Rattle.rules.specs.Records.{recordSize}
-use Rattle.rules.specs.Calls.{fresh, rest, silence}
+use Rattle.rules.specs.Calls.{rest, silence}
 use Rattle.places.specs.Places.{machineOf}
 use Rattle.processor.specs.declared.Progress.{Progress}
 use Rattle.front.specs.Words.{frontOf, recentOf}
 use Rattle.blocks.specs.Steps.{stateAt, Fed}
 use Rattle.processor.specs.Arrays.{machineAt}
-
--- ---- a piece
-
--- o is where a piece of flags and values begins, behind the trace T; the buffer b₀ has room for the records that the piece lets out
-pub record Begins (T : Trace) (o : Progress) (recent : List ℕ) (base : ℕ) (flags values b₀ : List ℕ) : Type 0 where
-  pub front : o .front ≡ frontOf (T .flags)
-  pub machine : machineAt o ≡ machineOf (stateAt T (length (T .flags) - 178))
-  pub place : o .at ≡ 0
-  pub kept : recent ≡ recentOf (T .values)
-  pub ticks : length (T .flags) ≡ base
-  pub alike : length (T .flags) ≡ length (T .values)
-  pub alike-piece : length flags ≡ length values
-  pub bytes : All (λ v. v ≤ 255) (T .values)
-  pub bytes-piece : All (λ v. v ≤ 255) values
-  pub limit : base + length flags ≤ sweepLimit
-  pub room : recordSize * length (fresh standard T (lent flags values)) ≤ length b₀
-
--- one that would pass the limit of a sweep is not fed
-pub record FeedPost (o : Progress) (recent : List ℕ) (base : ℕ) (flags values b : List ℕ) (y : Progress) (b′ : List ℕ) : Type 0 where
-  pub same : length b′ ≡ length b
-  pub past : sweepLimit < base + length flags → (y ≡ o) × (b′ ≡ b)
-  pub result : (T : Trace) → Begins T o recent base flags values b → Fed T (lent flags values) b y b′
-
--- ---- the ticks past the end
 
 -- o is where the trace T ends; the buffer b₀ has room for the records that are left
 pub record Ends (T : Trace) (o : Progress) (recent : List ℕ) (base : ℕ) (b₀ : List ℕ) : Type 0 where

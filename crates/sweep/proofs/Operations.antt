@@ -30,7 +30,9 @@ use Rattle.marking.specs.Marks.{four}
 use Rattle.processor.specs.Arrays.{listed, progressOf, machineAt}
 use Rattle.processor.proofs.ProcessorLaws.{opening-of, taken-of, front-of, recent-of, machine-of}
 use Rattle.blocks.specs.Steps.{stateAt, Fed}
-use Rattle.pieces.specs.Feeding.{FeedPost, DrainPost}
+use Rattle.blocks.specs.Feeding.{BlocksPost}
+use Rattle.pieces.specs.Feeding.{DrainPost}
+use Rattle.pieces.proofs.Pieces.{enters-piece}
 use Rattle.front.specs.Post.{KeepPost}
 use Rattle.rules.proofs.Answers.{standard-allowed, took, closes}
 use Rattle.rules.proofs.Truth.{impossible}
@@ -126,7 +128,7 @@ bytes-all (v ∷ l) h = (omega (arith, h 0), bytes-all l (λ i. h (suc i)))
 
 module _ (p : Processor) (P : Trace) (b : List ℕ) (limit : p .taken + length (P .flags) ≤ sweepLimit) (bytes : (i : ℕ) → getD (P .values) i 0 < 256)
     (o y : Progress) (b′ recent′ : List ℕ) (oe : o ≡ progressOf p)
-    (fd : FeedPost o (p .recent) (p .taken) (P .flags) (P .values) b y b′) (kp : KeepPost (p .recent) (P .values) recent′) where
+    (fd : BlocksPost o (p .recent) (p .taken) (P .flags) (P .values) b y b′) (kp : KeepPost (p .recent) (P .values) recent′) where
   abbrev result : Taken
   result =
       record {
@@ -139,6 +141,7 @@ module _ (p : Processor) (P : Trace) (b : List ℕ) (limit : p .taken + length (
     fed : Fed T P b y b′
     fed =
         fd .result T
+        (enters-piece T o (p .recent) (p .taken) (P .flags) (P .values) b
         (record {
           front = ap (λ (x : Progress). x .front) oe ∙ front-of ω T p is;
           machine = ap machineAt oe ∙ machine-of ω T p is;
@@ -151,7 +154,7 @@ module _ (p : Processor) (P : Trace) (b : List ℕ) (limit : p .taken + length (
           bytes-piece = bytes-all (P .values) bytes;
           limit = limit;
           room = room;
-        })
+        }))
 
     took-it : result ≡ record { answer = Accepted (length (fresh standard T P)); processor = runningProcessor ω (T ⧺ P) }
     unfolding runningProcessor

@@ -14,8 +14,8 @@ use calls::no_close;
 use calls::no_take;
 use calls::opened_with;
 use front::values::keep;
+use machine::work;
 use pieces::drain;
-use pieces::feed;
 use processor::Processor;
 use processor::moved;
 use processor::progress_of;
@@ -46,7 +46,7 @@ fn take_piece(p: Processor, flags: &[u8], values: &[u8], out: &mut [u8]) -> Take
     ensures { λ r. ⌜ TakenPiece p (lent (now (flags .entry)) (now (values .entry))) (now (out .entry)) r (now (out .exit)) ⌝ }
 {
     let mut recent = p.recent;
-    let y = feed(progress_of(p), &recent, p.taken, flags, values, out);
+    let y = work(progress_of(p), &recent, p.taken, flags, values, out);
     keep(&mut recent, values);
     let taken = p.taken + flags.len() as u32;
     Taken {

@@ -22,7 +22,7 @@ use Rattle.front.specs.Words.{recentOf}
 use Rattle.front.specs.Post.{KeepPost}
 use Rattle.front.proofs.ValueLaws.{recent-more}
 use Rattle.blocks.specs.Steps.{quiet}
-use Rattle.pieces.specs.Feeding.{FeedPost}
+use Rattle.blocks.specs.Feeding.{BlocksPost}
 use Rattle.takes.specs.declared.Reached.{Reached}
 use Rattle.takes.specs.Post.{part, arrivedAt, Taken, TakeAllPost}
 use Rattle.takes.proofs.Taking.{Takings, takings-start, takings-fed, takings-quiet, takings-end}
@@ -101,7 +101,7 @@ module _ (p : Processor) (T : Trace) (piece : ℕ) (b₀ : List ℕ) (alike : le
 
     -- one that is fed
     pub late-fed : (old new : List ℕ) → KeepPost recent (part kept i (T .values)) old → KeepPost old (part i end (T .values)) new → (z : Progress) (m′ : List ℕ) (to : ℕ)
-        → FeedPost y old i (part i end (T .flags)) (part i end (T .values)) (midOf at (length b - at) b) z m′
+        → BlocksPost y old i (part i end (T .flags)) (part i end (T .values)) (midOf at (length b - at) b) z m′
         → to ≡ at + recordSize * min (z .at / recordSize) ((length b - at) / recordSize) → length (putMid at (length b - at) b m′) ≡ length b
         → Late p T piece b₀ (record { front = z .front; places = z .places; counts = z .counts; at = 0 }) new end to end (putMid at (length b - at) b m′)
     late-fed old new ko kn z m′ to post e l =

@@ -24,7 +24,8 @@ use Rattle.blocks.specs.Steps.{quiet, Fed}
 use Rattle.places.specs.Places.{idle}
 use Rattle.marking.specs.Marks.{four}
 use Rattle.processor.specs.Arrays.{listed, processorAt}
-use Rattle.pieces.specs.Feeding.{Begins, FeedPost}
+use Rattle.blocks.specs.Feeding.{BlocksPost}
+use Rattle.pieces.proofs.Pieces.{Begins, enters-piece}
 use Rattle.front.specs.Post.{KeepPost}
 use Rattle.processor.proofs.ProcessorLaws.{opening-of, taken-of, front-of, recent-of, machine-of}
 use Rattle.takes.proofs.Resting.{quiet-rests}
@@ -78,12 +79,12 @@ module _ (p : Processor) (o : Progress) (recent : List ℕ) (base : ℕ) (P : Tr
   unfoldable pub q : Processor
   q = processorAt p o recent base
 
-  module _ (start : o .at ≡ 0) (y : Progress) (m′ : List ℕ) (post : FeedPost o recent base (P .flags) (P .values) (midOf at (length b - at) b) y m′) where
+  module _ (start : o .at ≡ 0) (y : Progress) (m′ : List ℕ) (post : BlocksPost o recent base (P .flags) (P .values) (midOf at (length b - at) b) y m′) where
     module _ (T : Trace) (g : Begins T o recent base (P .flags) (P .values) (drop at b)) where
       fed : Fed T P (drop at b) y m′
       fed =
           subst (λ (l : List ℕ). Fed T P l y m′) (mid-is at b)
-          (post .result T (subst (λ (l : List ℕ). Begins T o recent base (P .flags) (P .values) l) (sym (mid-is at b)) g))
+          (post .result T (enters-piece T o recent base (P .flags) (P .values) (midOf at (length b - at) b) (subst (λ (l : List ℕ). Begins T o recent base (P .flags) (P .values) l) (sym (mid-is at b)) g)))
 
       few : recordSize * length (fresh standard T P) ≤ length b - at
       few = omega (arith, g .room, length-drop at b)

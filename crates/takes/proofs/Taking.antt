@@ -4,7 +4,7 @@ use native.Mathlib.Omega.{arith}
 use mathlib.Core.Path.{_≡_, refl, sym, ap, _∙_, subst}
 use mathlib.Core.Bool.{Bool, true}
 use mathlib.Core.List.{List, [], _∷_, _++_}
-use lib.ListN.{length, getD, take, drop, length-append, length-drop}
+use lib.ListN.{length, getD, take, drop, length-append, length-take, length-drop}
 use lib.Seq.{take-add, length-take-le, take-all}
 use borrow.Rule.Slice.PartMut.{midOf, putMid}
 use Rattle.rules.specs.declared.Opening.{Opening}
@@ -12,7 +12,7 @@ use Rattle.rules.specs.declared.Reply.{Reply}
 use Rattle.rules.specs.declared.Place.{Place}
 use Rattle.rules.specs.Settings.{standard}
 use Rattle.rules.specs.Lists.{All}
-use Rattle.rules.specs.Samples.{Trace, nothing, _⧺_}
+use Rattle.rules.specs.Samples.{Trace, nothing, sweepLimit, _⧺_}
 use Rattle.rules.specs.Buffers.{over, over-at}
 use Rattle.rules.specs.Machine.{after}
 use Rattle.rules.specs.Records.{records, recordSize}
@@ -26,7 +26,7 @@ use Rattle.processor.specs.declared.Progress.{Progress}
 use Rattle.processor.specs.Arrays.{listed, machineAt, processorAt, progressOf}
 use Rattle.processor.specs.State.{running, runningProcessor, processorOf, Made}
 use Rattle.blocks.specs.Steps.{quiet}
-use Rattle.pieces.specs.Feeding.{FeedPost}
+use Rattle.blocks.specs.Feeding.{BlocksPost}
 use Rattle.front.specs.Post.{KeepPost}
 use Rattle.rules.proofs.Answers.{standard-allowed}
 use Rattle.processor.proofs.ProcessorLaws.{opening-of, front-of, recent-of, machine-of}
@@ -202,7 +202,7 @@ module _ (p : Processor) (T : Trace) (piece : ℕ) (b₀ : List ℕ) (alike : le
       ticks : end ≡ i + length (between i end T .flags)
       ticks = omega (arith, size-P, step)
 
-      pub takings-fed : (z : Progress) (m′ : List ℕ) (to : ℕ) → FeedPost y recent i (between i end T .flags) (between i end T .values) (midOf at (length b - at) b) z m′
+      pub takings-fed : (z : Progress) (m′ : List ℕ) (to : ℕ) → BlocksPost y recent i (between i end T .flags) (between i end T .values) (midOf at (length b - at) b) z m′
           → to ≡ at + recordSize * min (z .at / recordSize) ((length b - at) / recordSize) → length (putMid at (length b - at) b m′) ≡ length b
           → Takings p T piece b₀ (record { front = z .front; places = z .places; counts = z .counts; at = 0 }) kept to end (putMid at (length b - at) b m′)
       unfolding q
@@ -233,3 +233,7 @@ module _ (p : Processor) (T : Trace) (piece : ℕ) (b₀ : List ℕ) (alike : le
 pub all-bytes : (l : List ℕ) → ((i : ℕ) → getD l i 0 ≤ 255) → All (λ v. v ≤ 255) l
 all-bytes [] h = tt
 all-bytes (x ∷ l) h = (h 0, all-bytes l (λ i. h (suc i)))
+
+-- a part of a sweep ends within the limit that the machine has
+pub part-ends : (l : List ℕ) (from size : ℕ) → from < length l → length l ≤ sweepLimit → from + length (take size (drop from l)) < 65000
+part-ends l from size a b = omega (arith, length-take size (drop from l), length-drop from l)

@@ -9,7 +9,7 @@ ghost use Rattle.rules.specs.Samples.{lent};
 ghost use Rattle.takes.specs.Post.{part, arrivedAt, TakeAllPost};
 use blocks::is_quiet;
 use front::values::keep;
-use pieces::feed;
+use machine::work;
 use processor::Processor;
 use processor::Progress;
 use processor::moved;
@@ -89,7 +89,7 @@ pub fn take_all(p: Processor, flags: &[u8], values: &[u8], piece: usize, out: &m
             continue;
         }
         keep_part(&mut recent, values, kept, i);
-        y = feed(
+        y = work(
             y,
             &recent,
             i as u32,

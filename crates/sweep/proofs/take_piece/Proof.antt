@@ -12,8 +12,8 @@ use Rattle.sweep.proofs.take_piece.Tie as tie
 progress-of-requires : tie.Need-progress-of-requires
 progress-of-requires c κs = search needs
 
-feed-requires : tie.Need-feed-requires
-feed-requires c κs = search needs
+work-requires : tie.Need-work-requires
+work-requires c κs = omega (arith, c .before .before .before .before .before .before .before .pre)
 
 keep-requires : tie.Need-keep-requires
 keep-requires c κs = search needs
@@ -32,9 +32,9 @@ same-length c = search needs
 
 returns : tie.Need-returns
 returns c =
-    let feed = c .before .before .before .before .before .before .before .feed in
+    let work = c .before .before .before .before .before .before .before .work in
     let a = c .before .before .before .before .before .before .before .before .before .before .before .before .before .before .before .args in
-    take-done (a .p) (record { flags = a .flags .now; values = a .values .now }) (a .out .now) (c .before .before .before .before .before .before .before .before .before .before .before .before .before .before .before .pre) (λ i. omega (arith, c .before .before .before .before .before .before .before .before .before .before .before .before .before .shared-slice-known2 .given i)) _ (feed .result) _ _ (c .before .before .before .before .before .before .before .before .before .before .progress-of .ensures) (feed .ensures) (c .before .before .before .keep .ensures) _ (ap (λ (q : Processor). record { answer = Accepted (feed .result .at / recordSize); processor = q }) (c .moved .ensures))
+    take-done (a .p) (record { flags = a .flags .now; values = a .values .now }) (a .out .now) (c .before .before .before .before .before .before .before .before .before .before .before .before .before .before .before .pre) (λ i. omega (arith, c .before .before .before .before .before .before .before .before .before .before .before .before .before .shared-slice-known2 .given i)) _ (work .result) _ _ (c .before .before .before .before .before .before .before .before .before .before .progress-of .ensures) (work .ensures) (c .before .before .before .keep .ensures) _ (ap (λ (q : Processor). record { answer = Accepted (work .result .at / recordSize); processor = q }) (c .moved .ensures))
 
 pub take-piece-spec : {M : Type 1} → statement M
-take-piece-spec = tie.close (tie.spec progress-of-requires feed-requires keep-requires cast-taken add-taken moved-requires same-length returns)
+take-piece-spec = tie.close (tie.spec progress-of-requires work-requires keep-requires cast-taken add-taken moved-requires same-length returns)

@@ -3,7 +3,7 @@ use Prim.Native.Nat.{ℕ, _+_, _-_}
 use native.Mathlib.Omega.{arith}
 use mathlib.Core.Path.{refl, ap}
 use lib.ListN.{length}
-use Rattle.takes.proofs.Taking.{all-bytes}
+use Rattle.takes.proofs.Taking.{all-bytes, part-ends}
 use Rattle.takes.proofs.Keeping.{Late, late-start, late-fed, late-quiet, late-end}
 use Rattle.takes.proofs.take_all.Statement.{statement}
 use Rattle.takes.proofs.take_all.Tie as tie
@@ -63,38 +63,40 @@ loop-again c =
 keep-part-requires : tie.Need-keep-part-requires Inv-loop μ-loop
 keep-part-requires c κs = (c .before .before .before .before .before .before .before .before .loop .inv .behind, omega (arith, c .before .before .before .before .before .before .before .before .loop .inv .takings .reach, c .before .before .before .before .before .before .before .before .before .before .before .before .before .before .pre .0))
 
-cast-feed : tie.Need-cast-feed Inv-loop μ-loop
-cast-feed c = omega arith
+cast-work : tie.Need-cast-work Inv-loop μ-loop
+cast-work c = omega arith
 
-sub-feed : tie.Need-sub-feed Inv-loop μ-loop
-sub-feed c = omega arith
+sub-work : tie.Need-sub-work Inv-loop μ-loop
+sub-work c = omega arith
 
-part-feed-start : tie.Need-part-feed-start Inv-loop μ-loop
-part-feed-start c = omega arith
+part-work-start : tie.Need-part-work-start Inv-loop μ-loop
+part-work-start c = omega arith
 
-part-feed-end : tie.Need-part-feed-end Inv-loop μ-loop
-part-feed-end c = omega arith
+part-work-end : tie.Need-part-work-end Inv-loop μ-loop
+part-work-end c = omega arith
 
-sub-feed-2 : tie.Need-sub-feed-2 Inv-loop μ-loop
-sub-feed-2 c = omega arith
+sub-work-2 : tie.Need-sub-work-2 Inv-loop μ-loop
+sub-work-2 c = omega arith
 
-part-feed-start-2 : tie.Need-part-feed-start-2 Inv-loop μ-loop
-part-feed-start-2 c = omega arith
+part-work-start-2 : tie.Need-part-work-start-2 Inv-loop μ-loop
+part-work-start-2 c = omega arith
 
-part-feed-end-2 : tie.Need-part-feed-end-2 Inv-loop μ-loop
-part-feed-end-2 c = omega arith
+part-work-end-2 : tie.Need-part-work-end-2 Inv-loop μ-loop
+part-work-end-2 c = omega arith
 
-sub-feed-3 : tie.Need-sub-feed-3 Inv-loop μ-loop
-sub-feed-3 c = omega arith
+sub-work-3 : tie.Need-sub-work-3 Inv-loop μ-loop
+sub-work-3 c = omega arith
 
-part-feed-start-3 : tie.Need-part-feed-start-3 Inv-loop μ-loop
-part-feed-start-3 c = omega arith
+part-work-start-3 : tie.Need-part-work-start-3 Inv-loop μ-loop
+part-work-start-3 c = omega arith
 
-part-feed-end-3 : tie.Need-part-feed-end-3 Inv-loop μ-loop
-part-feed-end-3 c = omega arith
+part-work-end-3 : tie.Need-part-work-end-3 Inv-loop μ-loop
+part-work-end-3 c = omega arith
 
-feed-requires : tie.Need-feed-requires Inv-loop μ-loop
-feed-requires c κs = tt
+work-requires : tie.Need-work-requires Inv-loop μ-loop
+work-requires c κs =
+    let l = c .before .before .before .before .before .before .before .before .before .before .before .before .before .loop in
+    part-ends (c .before .before .before .before .before .before .before .before .before .before .before .before .before .before .before .before .before .before .before .args .flags .now) (l .i) (l .i + c .before .before .before .before .before .before .before .before .before .before .before .least .result - l .i) (c .before .before .before .before .before .before .before .before .before .before .before .before .loop-test .taken) (c .before .before .before .before .before .before .before .before .before .before .before .before .before .before .before .before .before .before .before .pre .2)
 
 keep-part-requires-2 : tie.Need-keep-part-requires-2 Inv-loop μ-loop
 keep-part-requires-2 c κs = (omega arith, omega (arith, c .before .before .before .before .before .before .before .before .before .before .before .before .before .before .before .least .ensures, c .before .before .before .before .before .before .before .before .before .before .before .before .before .before .before .before .before .before .before .before .before .before .before .pre .0, c .before .before .before .before .before .before .before .before .before .before .before .before .before .before .before .before .loop-test .taken))
@@ -108,10 +110,10 @@ loop-less-2 c = omega (arith, c .before .before .before .before .before .before 
 loop-again-2 : tie.Need-loop-again-2 Inv-loop μ-loop
 loop-again-2 c =
     let out = c .before .before .before .before .out in
-    let feed = c .before .before .before .before .before .feed in
+    let work = c .before .before .before .before .before .work in
     let l = c .before .before .before .before .before .before .before .before .before .before .before .before .before .before .before .before .before .before .before .loop in
     let a = c .before .before .before .before .before .before .before .before .before .before .before .before .before .before .before .before .before .before .before .before .before .before .before .before .before .args in
-    late-fed (a .p) (record { flags = a .flags .now; values = a .values .now }) (a .piece) (a .out .now) (c .before .before .before .before .before .before .before .before .before .before .before .before .before .before .before .before .before .before .before .before .before .before .before .before .before .pre .0) (l .y) (l .recent) (l .kept) (l .at) (l .i) _ (l .out) (l .inv) (c .before .before .before .before .before .before .before .before .before .before .before .before .before .before .before .before .before .before .loop-test .taken) (ap (λ (n : ℕ). l .i + n) (c .before .before .before .before .before .before .before .before .before .before .before .before .before .before .before .before .before .least .ensures)) (all-bytes (a .values .now) (λ k. omega (arith, c .before .before .before .before .before .before .before .before .before .before .before .before .before .before .before .before .before .before .before .before .before .before .before .shared-slice-known2 .given k))) _ _ (c .before .before .before .before .before .before .before .before .before .before .keep-part .ensures) (c .before .keep-part2 .ensures) (feed .result) _ _ (feed .ensures) (omega (arith, c .behind .ensures, out .given)) (omega (arith, out .given))
+    late-fed (a .p) (record { flags = a .flags .now; values = a .values .now }) (a .piece) (a .out .now) (c .before .before .before .before .before .before .before .before .before .before .before .before .before .before .before .before .before .before .before .before .before .before .before .before .before .pre .0) (l .y) (l .recent) (l .kept) (l .at) (l .i) _ (l .out) (l .inv) (c .before .before .before .before .before .before .before .before .before .before .before .before .before .before .before .before .before .before .loop-test .taken) (ap (λ (n : ℕ). l .i + n) (c .before .before .before .before .before .before .before .before .before .before .before .before .before .before .before .before .before .least .ensures)) (all-bytes (a .values .now) (λ k. omega (arith, c .before .before .before .before .before .before .before .before .before .before .before .before .before .before .before .before .before .before .before .before .before .before .before .shared-slice-known2 .given k))) _ _ (c .before .before .before .before .before .before .before .before .before .before .keep-part .ensures) (c .before .keep-part2 .ensures) (work .result) _ _ (work .ensures) (omega (arith, c .behind .ensures, out .given)) (omega (arith, out .given))
 
 keep-part-requires-3 : tie.Need-keep-part-requires-3 Inv-loop μ-loop
 keep-part-requires-3 c κs = (omega (arith, c .before .before .loop .inv .behind, c .before .before .loop .inv .takings .reach), omega (arith, c .before .before .before .before .before .before .before .before .pre .0))
@@ -151,17 +153,17 @@ take-all-spec =
     loop-less
     loop-again
     keep-part-requires
-    cast-feed
-    sub-feed
-    part-feed-start
-    part-feed-end
-    sub-feed-2
-    part-feed-start-2
-    part-feed-end-2
-    sub-feed-3
-    part-feed-start-3
-    part-feed-end-3
-    feed-requires
+    cast-work
+    sub-work
+    part-work-start
+    part-work-end
+    sub-work-2
+    part-work-start-2
+    part-work-end-2
+    sub-work-3
+    part-work-start-3
+    part-work-end-3
+    work-requires
     keep-part-requires-2
     behind-requires
     loop-less-2
