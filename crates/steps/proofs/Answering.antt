@@ -16,7 +16,7 @@ use Rattle.rules.specs.Settings.{standard}
 use Rattle.rules.specs.Samples.{Trace, nothing}
 use Rattle.rules.specs.Buffers.{over, over-at}
 use Rattle.rules.specs.Records.{records, recordSize}
-use Rattle.rules.specs.Calls.{Answer as RulesAnswer, accepted, refused, openAnswer, closeRoom}
+use Rattle.rules.specs.Calls.{Answer as RulesAnswer, accepted, refused, openAnswer, closeRoom, mostLeft}
 use Rattle.rules.proofs.Buffers.{over-at-nil, over-at-next}
 use Rattle.rules.proofs.HandingOut.{fresh-most, rest-most}
 use Rattle.calls.specs.declared.Answer.{Answer}
@@ -265,7 +265,7 @@ module _ (p : Processor) (at : ℕ) (b : List ℕ) where
     -- ---- the close
 
     module _ (h₀ h : List ℕ) (lent : length h₀ ≡ closeRoom) (t : Closed) (post : ClosePost p h₀ t h) where
-      rest-few : (σ : Sweep) → length (restOf σ) ≤ 8
+      rest-few : (σ : Sweep) → length (restOf σ) ≤ mostLeft
       rest-few none = omega arith
       rest-few (running ω T) = rest-most standard standard-allowed T
 
