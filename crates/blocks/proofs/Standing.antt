@@ -19,7 +19,7 @@ use Rattle.span.specs.declared.Span.{Span}
 use Rattle.front.specs.Post.{valueOf}
 use Rattle.span.specs.Spans.{TopPost, AbovePost, hasBracket, bracketIn}
 use Rattle.span.proofs.Spans.{bracket-none, bracket-there}
-use Rattle.blocks.specs.Steps.{Wanted, apartIn, secondIn}
+use Rattle.visits.specs.Visits.{Wanted, apartIn, secondIn}
 use Rattle.blocks.proofs.Visiting.{Todo, todo-plain, todo-bracket}
 use Rattle.blocks.proofs.Taking.{Bracketed, Visited, visited-plain, visited-bracketed}
 

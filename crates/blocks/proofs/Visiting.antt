@@ -5,7 +5,6 @@ use mathlib.Core.Path.{_≡_, refl, sym, ap, _∙_, subst}
 use mathlib.Core.Logic.{_⊎_, inl, inr}
 use mathlib.Core.Bool.{Bool, true, false, _&&_, _||_, cond}
 use mathlib.Core.List.{List, [], _∷_}
-use lib.Bits.{bitAnd, bitOr}
 use lib.Dec.{leb, ltb}
 use lib.ListN.{length}
 use borrow.Author.Tests.{leb-true, leb-false}
@@ -21,35 +20,15 @@ use Rattle.rules.proofs.Truth.{impossible, same-or, and-left, or-left, or-right
 use Rattle.places.specs.Places.{any3, anyIn, placed}
 use Rattle.places.proofs.Placed.{any-placed}
 use Rattle.plane.specs.Words.{bit, Lowest, WithoutLowest}
-use Rattle.plane.proofs.BitLaws.{bit-and, bit-or}
+use Rattle.plane.proofs.BitLaws.{zero-bit}
 use Rattle.marking.specs.declared.Words.{Words}
-use Rattle.marking.specs.Marks.{four, Marked, anyAt, AnyWord, withoutWord}
+use Rattle.marking.specs.Marks.{four, Marked, anyAt, withoutWord}
 use Rattle.marking.proofs.Marking.{any-marked}
 use Rattle.span.specs.declared.Span.{Span}
 use Rattle.span.specs.Spans.{TopPost, AbovePost, hasBracket}
 use Rattle.span.proofs.Spans.{span-bracket, bracket-none}
-use Rattle.blocks.specs.Steps.{Shows, wantedIn, Wanted}
-
--- ---- wanted
-
-pub wanted-law : (s : Span) (on : Words) (x w : ℕ) → AnyWord on w → Wanted s on x (bitAnd x (bitOr (s .at168) (bitOr (s .at167) (bitOr (s .at169) w))))
-wanted-law s on x w h =
-    record {
-      at = λ i.
-          let a = bit (s .at168) i in
-          let b = bit (s .at167) i in
-          let c = bit (s .at169) i in
-          bit-and x (bitOr (s .at168) (bitOr (s .at167) (bitOr (s .at169) w))) i
-          ∙ ap (λ (y : Bool). bit x i && y)
-          (bit-or (s .at168) (bitOr (s .at167) (bitOr (s .at169) w)) i
-          ∙ ap (λ (y : Bool). a || y) (bit-or (s .at167) (bitOr (s .at169) w) i ∙ ap (λ (y : Bool). b || y) (bit-or (s .at169) w i ∙ ap (λ (y : Bool). c || y) (h .at i)))
-          ∙ grouped a b c (anyAt on i));
-    }
-  where
-    grouped : (a b c d : Bool) → (a || (b || (c || d))) ≡ ((a || (b || c)) || d)
-    grouped true b c d = refl
-    grouped false true c d = refl
-    grouped false false c d = refl
+use Rattle.visits.specs.Visits.{wantedIn, Wanted}
+use Rattle.blocks.specs.Steps.{Shows}
 
 -- ---- the ticks that are left
 
@@ -111,7 +90,7 @@ module _ (s : Span) (r : ℕ) (on : Words) where
             → anyAt (record { a = cond x (on .b) (on .a); b = cond y (on .c) (on .b); c = cond z (on .d) (on .c); d = 0 }) j ≡ false
         go x y z na nb nc nd =
             four-off (bit (cond x (on .b) (on .a)) j) (bit (cond y (on .c) (on .b)) j) (bit (cond z (on .d) (on .c)) j) (bit 0 j) (pick x (on .b) (on .a) nb na) (pick y (on .c) (on .b) nc nb)
-            (pick z (on .d) (on .c) nd nc) (Rattle.plane.proofs.BitLaws.zero-bit j)
+            (pick z (on .d) (on .c) nd nc) (zero-bit j)
 
     pub todo-left : (k : ℕ) (on′ : Words) → on′ ≡ withoutWord k on → Todo s r on′ todo from
     todo-left k on′ e =

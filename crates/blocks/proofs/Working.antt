@@ -48,7 +48,8 @@ use Rattle.outcomes.specs.declared.Outcome.{Outcome}
 use Rattle.firsts.specs.Ticks.{firstsOf, AllEarly}
 use Rattle.outcomes.specs.Outcomes.{outcomeBy, clearIn, OutcomePost, removedBy, countedBy, phantomMore}
 use Rattle.outcomes.proofs.Outcomes.{removes-main}
-use Rattle.blocks.specs.Steps.{stateAt, Shows, Wanted, noneDue}
+use Rattle.visits.specs.Visits.{Wanted}
+use Rattle.blocks.specs.Steps.{stateAt, Shows, noneDue}
 use Rattle.blocks.specs.Leaving.{lessPhantom}
 use Rattle.processor.specs.Arrays.{machineIn}
 use Rattle.blocks.proofs.Leaving.{without-there, last-there, marked-left, over-first}

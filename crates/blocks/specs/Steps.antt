@@ -15,11 +15,7 @@ use Rattle.rules.specs.Records.{records, recordSize}
 use Rattle.rules.specs.Calls.{fresh}
 use Rattle.places.specs.Places.{test, machineOf}
 use Rattle.rules.specs.declared.Place.{Place}
-use Rattle.rules.specs.declared.Pulse.{Pulse}
-use Rattle.marking.specs.declared.Words.{Words}
-use Rattle.marking.specs.Marks.{anyAt}
 use Rattle.rules.specs.Buffers.{over-at}
-use Rattle.plane.specs.Words.{bit}
 use Rattle.packing.specs.declared.Planes.{Planes}
 use Rattle.flags.specs.Flags.{noFlags}
 use Rattle.front.specs.declared.words.Front.{Front}
@@ -27,8 +23,8 @@ use Rattle.span.specs.declared.Span.{Span}
 use Rattle.processor.specs.declared.Progress.{Progress}
 use Rattle.processor.specs.Arrays.{machineAt}
 use Rattle.front.specs.Words.{padded, frontOf}
-use Rattle.front.specs.Post.{Low, Reads, valueOf, blank}
-use Rattle.span.specs.Spans.{Spanned, pulseIn, hasBracket}
+use Rattle.front.specs.Post.{Low, Reads, blank}
+use Rattle.span.specs.Spans.{Spanned}
 
 -- no flag
 abbrev pub flagless : Planes → Bool
@@ -55,35 +51,6 @@ pub record Shows (T : Trace) (t : ℕ) (s : Span) (recent : List ℕ) (base : �
   pub ticks : length (T .flags) ≡ t
   pub spanned : Spanned (padded (T .flags)) t s
   pub reads : Reads T t recent base values
-
--- ---- the ticks to visit
-
--- tick i of the span has a bracket, or a reply covers it
-abbrev pub wantedIn : Span → Words → ℕ → Bool
-wantedIn s on i = hasBracket s i || anyAt on i
-
--- those of the ticks x
-pub record Wanted (s : Span) (on : Words) (x y : ℕ) : Type 0 where
-  pub at : (i : ℕ) → bit y i ≡ (bit x i && wantedIn s on i)
-
--- ---- the edges
-
--- the edge at u, which is tick i of the span, with M and value of the next tick
-abbrev pub edgeIn : Span → ℕ → ℕ → List ℕ → ℕ → List ℕ → Pulse
-edgeIn s i u recent base values = pulseIn (s .main) i u (valueOf recent base values (u + 1))
-
--- how far behind an edge its F2 stands: 168 ticks, else 167, else 169
-abbrev pub apartIn : Span → ℕ → ℕ
-apartIn s i = cond (bit (s .at168) i) 168 (cond (bit (s .at167) i) 167 169)
-
--- the F2 of the bracket at u, where one stands
-abbrev pub secondIn : Span → ℕ → ℕ → List ℕ → ℕ → List ℕ → Pulse
-secondIn s i u recent base values =
-    record {
-      tick = record { 0 = u + apartIn s i };
-      main = cond (bit (s .at168) i) (bit (s .main168) i) (cond (bit (s .at167) i) (bit (s .main167) i) (bit (s .main169) i));
-      value = valueOf recent base values (u + apartIn s i + 1);
-    }
 
 -- ---- a block of up to 64 ticks
 

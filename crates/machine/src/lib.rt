@@ -8,13 +8,9 @@ ghost use Rattle.blocks.specs.Feeding.{BlocksPost};
 use agreement::agreement_of;
 use agreement::speaks;
 use blocks::block_length;
-use blocks::edge_at;
 use blocks::none_due;
 use blocks::packed;
-use blocks::second_at;
-use blocks::second_tick;
 use blocks::stays;
-use blocks::wanted;
 use covering::covers_of;
 use covering::risks_of;
 use firsts::firsts_of;
@@ -51,6 +47,10 @@ use span::second_main;
 use span::span_of;
 use span::tick_of;
 use span::top;
+use visits::edge_at;
+use visits::second_at;
+use visits::second_tick;
+use visits::wanted;
 
 // A place as it is, for another place in the array.
 fn kept(p: Place) -> Place

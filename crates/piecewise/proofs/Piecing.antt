@@ -22,7 +22,7 @@ use Rattle.calls.specs.declared.Taken.{Taken}
 use Rattle.calls.specs.declared.Closed.{Closed}
 use Rattle.calls.specs.declared.Answer.the-variants.{Accepted}
 use Rattle.calls.specs.Post.{openOf, takeAnswerAt, closeAnswerAt, TakePost, ClosePost}
-use Rattle.refusals.specs.Whole.{wholeAnswer}
+use Rattle.whole_refusals.specs.Whole.{wholeAnswer}
 use Rattle.takes.specs.Post.{part}
 use Rattle.takes.proofs.Taking.{all-take, all-drop, upTo, between, up-more, up-all}
 use Rattle.whole.proofs.Answering.{Clear, clear}

@@ -15,7 +15,7 @@ use Rattle.calls.specs.declared.Answer.{Answer}
 use Rattle.calls.specs.declared.Answer.the-variants.{Accepted, Refused}
 use Rattle.calls.specs.Post.{openOf, noTotals}
 use Rattle.calls.specs.Whole.{Call, Chain, last, joinedTrace, allHandedOut, allTotals}
-use Rattle.refusals.specs.Whole.{wholeAnswer}
+use Rattle.whole_refusals.specs.Whole.{wholeAnswer}
 use Rattle.piecewise.specs.declared.Swept.{Swept}
 
 -- how many records an answer counts: none where a call was turned down

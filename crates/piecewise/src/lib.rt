@@ -7,10 +7,9 @@ ghost use Rattle.rules.specs.Records.{totalsSize};
 ghost use Rattle.rules.specs.Samples.{lent};
 ghost use Rattle.calls.specs.Post.{noTotals};
 ghost use Rattle.calls.specs.declared.Answer.the-variants.{Refused};
-ghost use Rattle.refusals.specs.Whole.{wholeAnswer};
+ghost use Rattle.whole_refusals.specs.Whole.{wholeAnswer};
 ghost use Rattle.piecewise.specs.Post.{countIn, Calls, ByCallsPost};
 use calls::Answer;
-use refusals::whole::whole_refusal;
 use rules::Opening;
 use rules::RECORD;
 use rules::TOTALS;
@@ -20,6 +19,7 @@ use sweep::open;
 use sweep::take;
 use takes::Reached;
 use takes::least;
+use whole_refusals::whole_refusal;
 
 // How many replies were handed out in all, or the number of a refusal; and the totals.
 pub struct Swept {

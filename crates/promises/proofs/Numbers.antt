@@ -19,9 +19,9 @@ use Rattle.calls.specs.declared.Taken.{Taken}
 use Rattle.calls.specs.declared.Closed.{Closed}
 use Rattle.calls.specs.Post.{openAs, openOf, takeAnswerAt, takeAs, takeBufferAs, TakePost, closeAnswerAt, closeAs, closeBufferAs, noTotals, ClosePost}
 use Rattle.refusals.specs.Numbers.{answerNumbered}
-use Rattle.refusals.specs.Whole.{wholeAnswer}
+use Rattle.whole_refusals.specs.Whole.{wholeAnswer}
 use Rattle.refusals.proofs.Trying.{open-low, open-high, open-far, open-none, take-3, take-4, take-5, take-6, take-7, take-8, take-none, close-3, close-7, close-none}
-use Rattle.refusals.proofs.Refusing.{opening-refused, opening-passed, gives-4, gives-5-low, gives-5-high, gives-6, gives-7, gives-7-totals, gives-8, gives-none}
+use Rattle.whole_refusals.proofs.Refusing.{opening-refused, opening-passed, gives-4, gives-5-low, gives-5-high, gives-6, gives-7, gives-7-totals, gives-8, gives-none}
 use Rattle.whole.specs.Post.{answerOf, recordsOf, totalsOf, WholePost}
 use Rattle.promises.specs.Calls.{bytesFor, OfOpen, Turned, OfTake, TurnedClose, OfClose, TurnedWhole, Asked, OfWhole}
 

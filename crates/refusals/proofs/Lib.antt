@@ -1,3 +1,2 @@
 pub mod Trying
-pub mod Refusing
 pub mod Numbers

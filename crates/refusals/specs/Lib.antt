@@ -1,3 +1,2 @@
--- Answers as numbers, and the refusals of a whole sweep.
+-- Answers as numbers.
 pub mod Numbers
-pub mod Whole

@@ -10,8 +10,6 @@ use rules::CLOSE_ROOM;
 use rules::Opening;
 use rules::RECORD;
 
-pub mod whole;
-
 // Open. 1: mode not 1 to 3. 2: azimuth above 16,383.
 pub fn open_refusal(opening: Opening) -> u8
     ensures { λ r. ⌜ answerNumbered r ≡ openAnswer opening ⌝ }

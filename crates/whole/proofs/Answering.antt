@@ -25,7 +25,7 @@ use Rattle.processor.specs.State.{running, runningProcessor, processorOf, Made}
 use Rattle.calls.specs.Post.{openAs, openOf}
 use Rattle.rules.proofs.Answers.{standard-allowed, named}
 use Rattle.takes.specs.declared.Reached.{Reached}
-use Rattle.refusals.specs.Whole.{wholeRoom, lentChecks, wholeAnswer}
+use Rattle.whole_refusals.specs.Whole.{wholeRoom, lentChecks, wholeAnswer}
 use Rattle.whole.specs.Post.{answerOf, recordsOf, totalsOf, WholePost, CloseAtPost}
 use Rattle.takes.specs.Post.{Taken, TakeAllPost}
 use Rattle.takes.proofs.Taking.{over-more, handed-most}

@@ -13,7 +13,7 @@ use Rattle.rules.specs.Calls.{Answer, accepted, refused, rest}
 use Rattle.frames.specs.Writing.{totalsBytes}
 use Rattle.processor.specs.declared.Processor.{Processor}
 use Rattle.processor.specs.State.{running, Made}
-use Rattle.refusals.specs.Whole.{wholeAnswer}
+use Rattle.whole_refusals.specs.Whole.{wholeAnswer}
 
 -- the count of replies, or minus the number in 32 bits
 abbrev pub answerOf : Answer → Trace → ℕ

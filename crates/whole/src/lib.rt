@@ -3,7 +3,7 @@ ghost use Prim.Native.Nat.{_≤_};
 ghost use mathlib.Core.Path.{_≡_};
 ghost use lib.ListN.{length};
 ghost use Rattle.rules.specs.Records.{totalsSize};
-ghost use Rattle.refusals.specs.Whole.{wholeAnswer};
+ghost use Rattle.whole_refusals.specs.Whole.{wholeAnswer};
 ghost use Rattle.rules.specs.Samples.{lent};
 ghost use Rattle.whole.specs.Post.{CloseAtPost, WholePost, WholeByNumbers};
 ghost use Rattle.rules.specs.Calls.{accepted};
@@ -13,7 +13,6 @@ ghost use Rattle.frames.specs.Writing.{totalsBytes};
 use calls::Answer;
 use frames::totals_bytes;
 use processor::Processor;
-use refusals::whole::whole_refusal;
 use rules::MOST_LEFT;
 use rules::Opening;
 use rules::RECORD;
@@ -23,6 +22,7 @@ use sweep::close_open;
 use sweep::open;
 use takes::least;
 use takes::take_all;
+use whole_refusals::whole_refusal;
 
 // The close, whose records land behind those of the pieces, and the totals. Answers how many records there are in all.
 fn close_at(p: Processor, out: &mut [u8], at: usize, totals: &mut [u8]) -> usize

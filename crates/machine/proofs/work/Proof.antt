@@ -16,7 +16,7 @@ use Rattle.covering.proofs.Starting.{all-marked}
 use Rattle.span.specs.Spans.{bracketIn}
 use Rattle.processor.specs.declared.Progress.{Progress}
 use Rattle.processor.specs.Arrays.{machineIn}
-use Rattle.blocks.specs.Steps.{secondIn}
+use Rattle.visits.specs.Visits.{secondIn}
 use Rattle.blocks.specs.Feeding.{BlocksPost}
 use Rattle.blocks.proofs.Blank.{all-three, both, due-over, stays-law}
 use Rattle.blocks.proofs.BlockLaws.{block-law}

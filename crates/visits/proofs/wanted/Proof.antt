@@ -1,8 +1,8 @@
--- `blocks::wanted` meets its contract.
-use Rattle.blocks.proofs.Visiting.{wanted-law}
+-- `visits::wanted` meets its contract.
+use Rattle.visits.proofs.Wanting.{wanted-law}
 use borrow.Author.Needs.{needs}
-use Rattle.blocks.proofs.wanted.Statement.{statement}
-use Rattle.blocks.proofs.wanted.Tie as tie
+use Rattle.visits.proofs.wanted.Statement.{statement}
+use Rattle.visits.proofs.wanted.Tie as tie
 
 any-word-requires : tie.Need-any-word-requires
 any-word-requires c κs = search needs

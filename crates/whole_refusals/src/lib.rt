@@ -1,12 +1,12 @@
-// The same for a whole sweep in one call.
+// Which number turns a whole sweep in one call down: the first of its list that holds, or 0. A function of numbers and slices alone; asks nothing of its caller.
 ghost use Prim.Native.Nat.{_≤_};
 ghost use mathlib.Core.Path.{_≡_};
 ghost use lib.ListN.{length};
 ghost use Rattle.rules.specs.Samples.{lent};
 ghost use Rattle.refusals.specs.Numbers.{answerNumbered};
-ghost use Rattle.refusals.specs.Whole.{wholeRoom, wholeAnswer};
-use super::open_refusal;
+ghost use Rattle.whole_refusals.specs.Whole.{wholeRoom, wholeAnswer};
 use flags::has_bad;
+use refusals::open_refusal;
 use rules::CLOSE_ROOM;
 use rules::Opening;
 use rules::RECORD;

@@ -1,10 +1,10 @@
-use Rattle.refusals.proofs.Refusing.{opening-refused, opening-passed, gives-4, gives-5-low, gives-5-high, gives-6, gives-7, gives-7-totals, gives-8, gives-none}
+use Rattle.whole_refusals.proofs.Refusing.{opening-refused, opening-passed, gives-4, gives-5-low, gives-5-high, gives-6, gives-7, gives-7-totals, gives-8, gives-none}
 use mathlib.Core.Path.{sym, _∙_}
 use lib.ListN.{length}
 use native.Mathlib.Omega.{arith}
 use borrow.Author.Needs.{needs}
-use Rattle.refusals.proofs.whole.whole_refusal.Statement.{statement}
-use Rattle.refusals.proofs.whole.whole_refusal.Tie as tie
+use Rattle.whole_refusals.proofs.whole_refusal.Statement.{statement}
+use Rattle.whole_refusals.proofs.whole_refusal.Tie as tie
 
 open-refusal-requires : tie.Need-open-refusal-requires
 open-refusal-requires c κs = search needs

@@ -1,7 +1,7 @@
--- `blocks::edge_at` meets its contract.
+-- `visits::edge_at` meets its contract.
 use borrow.Author.Needs.{needs}
-use Rattle.blocks.proofs.edge_at.Statement.{statement}
-use Rattle.blocks.proofs.edge_at.Tie as tie
+use Rattle.visits.proofs.edge_at.Statement.{statement}
+use Rattle.visits.proofs.edge_at.Tie as tie
 
 marked-requires : tie.Need-marked-requires
 marked-requires c κs = search needs

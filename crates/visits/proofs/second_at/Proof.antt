@@ -1,10 +1,10 @@
--- `blocks::second_at` meets its contract.
+-- `visits::second_at` meets its contract.
 use Prim.Native.Nat.{ℕ, _+_}
 use mathlib.Core.Path.{ap, _∙_}
 use Rattle.front.specs.Post.{valueOf}
 use borrow.Author.Needs.{needs}
-use Rattle.blocks.proofs.second_at.Statement.{statement}
-use Rattle.blocks.proofs.second_at.Tie as tie
+use Rattle.visits.proofs.second_at.Statement.{statement}
+use Rattle.visits.proofs.second_at.Tie as tie
 
 second-tick-requires : tie.Need-second-tick-requires
 second-tick-requires c κs = search needs

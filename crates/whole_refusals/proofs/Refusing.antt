@@ -11,8 +11,8 @@ use Rattle.rules.specs.Samples.{Trace, bad}
 use Rattle.rules.specs.Records.{totalsSize}
 use Rattle.rules.specs.Calls.{firstOf, openChecks, openAnswer}
 use Rattle.rules.proofs.Checks.{first-past, first-before}
 use Rattle.refusals.specs.Numbers.{answerNumbered}
-use Rattle.refusals.specs.Whole.{wholeRoom, lentChecks, wholeAnswer}
+use Rattle.whole_refusals.specs.Whole.{wholeRoom, lentChecks, wholeAnswer}
 
 module _ (ω : Opening) (T : Trace) (piece room totalsRoom : ℕ) where
   -- the opening is refused

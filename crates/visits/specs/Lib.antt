@@ -1,0 +1,2 @@
+-- What is visited, and the edges.
+pub mod Visits

@@ -1,0 +1,2 @@
+-- The refusals of a whole sweep.
+pub mod Whole
