@@ -1,3 +1,2 @@
--- Laws of the survey program: the bytes that it keeps, and scan after scan over the bytes that a read gave.
-pub mod Keeping
-pub mod Carrying
+-- Laws of the survey program: read after read, and the end of the input.
+pub mod Reading

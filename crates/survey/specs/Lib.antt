@@ -1,3 +1,2 @@
--- What the survey program prints of the bytes that it has read, and what it keeps of them.
-pub mod Failing
+-- A survey on its way, read after read.
 pub mod Post

@@ -2,7 +2,7 @@ use Rattle.steps.specs.Post.{placeOf}
 use Rattle.steps.specs.declared.Step.{Step}
 use mathlib.Core.Path.{refl, ap}
 use Rattle.steps.proofs.Answering.{part-length}
-use Rattle.survey.proofs.Carrying.{rest-prints}
+use Rattle.survey.proofs.Reading.{rest-prints}
 use native.Mathlib.Omega.{arith}
 use borrow.Author.Needs.{needs}
 use Rattle.survey.proofs.last.Statement.{statement}

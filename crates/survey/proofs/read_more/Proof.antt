@@ -1,5 +1,5 @@
 use mathlib.Core.Path.{refl}
-use Rattle.survey.proofs.Keeping.{read-stays, more-left}
+use Rattle.survey.proofs.Reading.{read-stays, more-left}
 use borrow.Author.Needs.{needs}
 use Rattle.survey.proofs.read_more.Statement.{statement}
 use Rattle.survey.proofs.read_more.Tie as tie

@@ -1,7 +1,7 @@
 use mathlib.Core.Path.{_≡_, refl}
 use lib.ListN.{length}
 use Rattle.survey.specs.Post.{Stands}
-use Rattle.survey.proofs.Carrying.{going-start, goes-on}
+use Rattle.survey.proofs.Reading.{going-start, goes-on}
 use native.Mathlib.Omega.{arith}
 use borrow.Author.Needs.{needs}
 use Rattle.survey.proofs.run.Statement.{statement}

@@ -1,5 +1,5 @@
 use Rattle.steps.proofs.Answering.{part-length}
-use Rattle.survey.proofs.Carrying.{past-end, going-same, stands-carried, stands-going, stands-over, stands-failed}
+use Rattle.survey.proofs.Reading.{past-end, going-same, stands-carried, stands-going, stands-over, stands-failed}
 use native.Mathlib.Omega.{arith}
 use borrow.Author.Needs.{needs}
 use Rattle.survey.proofs.turn.Statement.{statement}

@@ -1,15 +1,13 @@
--- Bytes at the start of a buffer: those moved there, and those that a read leaves.
+-- Bytes moved to the start of a buffer, and those that are kept there.
 use Prim.Native.Nat.{ℕ, suc, _+_, _-_, _≤_, _<_}
 use native.Mathlib.Omega.{arith}
 use native.Mathlib.Numerals.{add-one}
 use mathlib.Core.Path.{_≡_, refl, sym, ap, ap₂, _∙_}
 use mathlib.Core.List.{List, [], _∷_, _++_}
 use lib.ListN.{length, getD, take, drop, set, length-set, length-drop}
-use borrow.Rule.Slice.PartMut.{putMid, take-put}
 use lib.Seq.{take-suc, take-suc-set, take-add, drop-set-lt, drop-at, drop-drop, getD-drop, length-take-le}
 use Rattle.ends.specs.Ends.{LinePast}
-use Rattle.survey.specs.declared.Came.the-variants.{More, End}
-use Rattle.survey.specs.Post.{ToStartPost}
+use Rattle.carrying.specs.Post.{ToStartPost}
 
 -- ---- bytes moved to the start
 
@@ -75,11 +73,3 @@ past-part input from l h =
       short = omega (arith, size, h .short);
       before = record { none = λ k a b e. h .before .none (from + k) (omega arith) (omega (arith, size)) (sym (getD-drop from input k 0) ∙ e) };
     }
-
--- a read behind the bytes kept leaves these
-pub read-stays : (kept : ℕ) (input got : List ℕ) → kept ≤ length input → take kept (putMid kept (length input - kept) input got) ≡ take kept input
-read-stays kept input got h = take-put kept (length input - kept) input got h
-
--- more bytes are not the end of the input
-pub more-left : More ≡ End → ⊥
-more-left e = let z : _≡_ {A = ℕ} 0 1 = cc in omega arith

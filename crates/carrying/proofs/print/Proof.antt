@@ -1,11 +1,11 @@
 use Rattle.rules.proofs.Truth.{impossible}
-use Rattle.survey.specs.Failing.{write-failed}
+use Rattle.carrying.specs.Failing.{write-failed}
 use lib.ListN.{length}
 use Prim.Native.Nat.{_≤_}
 use borrow.Author.Needs.{needs}
 use native.Mathlib.Omega.{arith}
-use Rattle.survey.proofs.print.Statement.{statement}
-use Rattle.survey.proofs.print.Tie as tie
+use Rattle.carrying.proofs.print.Statement.{statement}
+use Rattle.carrying.proofs.print.Tie as tie
 
 abbrev Inv-loop : tie.InvT-loop
 Inv-loop input from complete bytes n done₀ turns₀ done turns = done ≤ length bytes

@@ -4,12 +4,12 @@ use mathlib.Core.List.{List}
 use lib.ListN.{length, take}
 use borrow.Author.Tests.{not-true}
 use Rattle.steps.proofs.Answering.{part-length}
-use Rattle.survey.specs.Failing.{turns-used}
-use Rattle.survey.proofs.Carrying.{Carrying, carrying-start, carrying-next, carried-failed, carried-over, carried-kept}
+use Rattle.carrying.specs.Failing.{turns-used}
+use Rattle.carrying.proofs.Carrying.{Carrying, carrying-start, carrying-next, carried-failed, carried-over, carried-kept}
 use native.Mathlib.Omega.{arith}
 use borrow.Author.Needs.{needs}
-use Rattle.survey.proofs.carried.Statement.{statement}
-use Rattle.survey.proofs.carried.Tie as tie
+use Rattle.carrying.proofs.carried.Statement.{statement}
+use Rattle.carrying.proofs.carried.Tie as tie
 
 abbrev Inv-loop : tie.InvT-loop
 Inv-loop s input₀ n output₀ p₀ from₀ turns₀ input output p from turns = (input ≡ input₀) × (length output ≡ length output₀) × Carrying (s .processor) (take n input) p from

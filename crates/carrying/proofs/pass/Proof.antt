@@ -1,9 +1,9 @@
 use Rattle.steps.proofs.Answering.{part-length}
-use Rattle.survey.proofs.Carrying.{scan-prints, scan-passed}
+use Rattle.carrying.proofs.Printing.{scan-prints, scan-passed}
 use native.Mathlib.Omega.{arith}
 use borrow.Author.Needs.{needs}
-use Rattle.survey.proofs.pass.Statement.{statement}
-use Rattle.survey.proofs.pass.Tie as tie
+use Rattle.carrying.proofs.pass.Statement.{statement}
+use Rattle.carrying.proofs.pass.Tie as tie
 
 scan-lines-requires : tie.Need-scan-lines-requires
 scan-lines-requires c κs = search needs

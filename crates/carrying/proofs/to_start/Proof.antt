@@ -1,9 +1,9 @@
-use Rattle.survey.proofs.Keeping.{Moving, moving-start, moving-next, moving-end}
+use Rattle.carrying.proofs.Keeping.{Moving, moving-start, moving-next, moving-end}
 use Prim.Native.Nat.{_-_}
 use native.Mathlib.Omega.{arith}
 use borrow.Author.Tests.{ltb-false}
-use Rattle.survey.proofs.to_start.Statement.{statement}
-use Rattle.survey.proofs.to_start.Tie as tie
+use Rattle.carrying.proofs.to_start.Statement.{statement}
+use Rattle.carrying.proofs.to_start.Tie as tie
 
 abbrev Inv-loop : tie.InvT-loop
 Inv-loop input₀ from to i₀ k₀ input i k = Moving from to input₀ input i k
