@@ -1,2 +1,0 @@
--- Numbers below 0, and how far they are from it.
-pub mod Signs
