@@ -8,7 +8,7 @@ use lines::Scan;
 use lines::Scanned;
 use lines::scan_lines;
 use processor::Processor;
-ghost use Prim.Native.Nat.{_≤_};
+ghost use Prim.Native.Nat.{_+_, _%_, _^_, _≤_};
 ghost use mathlib.Core.Path.{_≡_};
 ghost use lib.ListN.{length, take};
 ghost use Rattle.carrying.specs.Post.{endedAs, Prints, PrintPost, PassPost, CarriedPost, ToStartPost};
@@ -108,7 +108,9 @@ pub fn report(number: u8, used: u64) {
 // ---- input
 
 // The bytes of input used, with n more.
-pub fn more(used: u64, n: usize) -> u64 {
+pub fn more(used: u64, n: usize) -> u64
+    ensures { λ r. ⌜ r ≡ (used + n) % 2 ^ 64 ⌝ }
+{
     std::num::wrapping_add_u64(used, n as u64)
 }
 
