@@ -47,7 +47,7 @@ class Outcome:
 
 def carried_out(calls):
     """The outcomes of the calls, from the start of a program."""
-    run = subprocess.run([PROGRAM], input=b"".join(call for call, _ in calls) + bytes(17), capture_output=True, timeout=60)
+    run = subprocess.run([PROGRAM], input=b"".join(call for call, _ in calls) + bytes(17), capture_output=True, timeout=600)
     if run.returncode or run.stderr or len(run.stdout) != sum(TOLD + room for _, room in calls):
         raise SystemExit(f"{NAME}: {PROGRAM} ended with {run.returncode} and {len(run.stdout)} bytes: {run.stderr.decode()}\n0 passed, 1 failed")
     outcomes, at = [], 0

@@ -8,7 +8,7 @@ use std::process::{Child, ChildStdin, Command, ExitStatus, Stdio};
 use std::thread;
 
 /// A program that takes longer than this over one input is ended, in seconds.
-const LONGEST: &str = "120";
+const LONGEST: &str = "600";
 
 /// What the program did.
 #[derive(Clone, Debug)]

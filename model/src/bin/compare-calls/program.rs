@@ -11,7 +11,7 @@ use std::thread;
 use std::time::Duration;
 
 /// How long the program may leave an outcome out.
-const PATIENCE: Duration = Duration::from_secs(60);
+const PATIENCE: Duration = Duration::from_secs(600);
 
 pub struct Program {
     child: Child,
