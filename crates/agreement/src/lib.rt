@@ -1,4 +1,6 @@
 // Of the places that cover an edge: whose reference the edge's value agrees with.
+#![tactic(auto)]
+
 ghost use Rattle.std.specs.Prelude.{◌<◌, ◌≡◌, ◌&&◌};
 ghost use Rattle.rules.specs.Replies.{agrees};
 ghost use Rattle.rules.specs.Settings.{standard};
@@ -27,7 +29,7 @@ pub fn speaks(c: bool, p: Place, v: u8) -> bool
 }
 
 // Which places cover an edge; of these, whose reference its value agrees with, and beside whom it agrees with another's.
-#[derive(Drop)]
+#[derive(Clone, Copy)]
 pub struct Agreement {
     pub covers: [bool; 4],
     pub own: [bool; 4],

@@ -1,5 +1,7 @@
 // The altitude of a mode C reply, and what a reply says by its mode.
 // Every 16-bit word has an answer: nothing is asked of the caller.
+#![tactic(auto)]
+
 ghost use Rattle.std.specs.Prelude.{◌≡◌, ◌≤◌, ◌<◌};
 ghost use Rattle.codes.specs.Pulses.{any_clear};
 ghost use Rattle.codes.specs.Gray.{with_digit};

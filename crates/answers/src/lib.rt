@@ -1,4 +1,6 @@
 // One line: what it makes of the sweep, and what it prints.
+#![tactic(auto)]
+
 ghost use Rattle.std.specs.Prelude.{◌+◌, ◌≤◌, ◌≡◌, length};
 ghost use Rattle.steps.specs.Outcomes.{stops, opened_at, taken_at, closed_at};
 ghost use Rattle.steps.specs.Post.{AnswerPost, StepPost, piece_of, said_at, number_of, count_in_lem, line_most};

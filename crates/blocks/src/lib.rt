@@ -1,4 +1,6 @@
 // A block of up to 64 ticks: its planes, how long it is, and when it changes nothing.
+#![tactic(auto)]
+
 ghost use Rattle.std.specs.Prelude.{◌+◌, ◌≤◌, ◌<◌, ◌≡◌, ◌&&◌, length};
 ghost use Rattle.packing.specs.Packing.{PackedPart};
 ghost use Rattle.front.specs.Post.{blank};

@@ -1,5 +1,7 @@
 // Brackets, from four words of edges in a row, e3 e2 e1 e, the newest being e.
 // The ticks u at which a bracket may stand are the 64 that start 169 before the first tick of e: then u+167, u+168 and u+169 are known for all of them.
+#![tactic(auto)]
+
 ghost use Rattle.brackets.specs.Brackets.{Due, At168, At167};
 
 // The edges at the ticks u.

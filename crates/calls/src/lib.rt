@@ -1,4 +1,6 @@
 // What the operations return. `specs/Post.antt` has their contracts, `specs/Whole.antt` the theorem over all lists of calls.
+#![tactic(auto)]
+
 ghost use Rattle.std.specs.Prelude.{◌/◌, ◌≡◌};
 ghost use Rattle.rules.specs.Samples.{nothing};
 ghost use Rattle.rules.specs.Records.{record_size};
@@ -10,25 +12,25 @@ use processor::{Processor, Progress, begun, idle};
 use rules::{Counts, Opening, RECORD, Totals};
 
 // A call was carried out, with so many records written, or turned down with a number.
-#[derive(Drop)]
+#[derive(Clone, Copy)]
 pub enum Answer {
     Accepted(usize),
     Refused(u8),
 }
 
-#[derive(Drop)]
+#[derive(Clone, Copy)]
 pub struct Opened {
     pub answer: Answer,
     pub processor: Processor,
 }
 
-#[derive(Drop)]
+#[derive(Clone, Copy)]
 pub struct Taken {
     pub answer: Answer,
     pub processor: Processor,
 }
 
-#[derive(Drop)]
+#[derive(Clone, Copy)]
 pub struct Closed {
     pub answer: Answer,
     pub totals: Totals,

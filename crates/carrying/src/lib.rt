@@ -1,6 +1,8 @@
 // What a read gave, carried out and printed. The lines are carried out scan after scan, just the bytes that these write are printed, and the rest of
 // the read is kept. What a write does is not in a contract. Standard error is told which refusal stopped the survey and after how many bytes of input,
 // or that a write failed.
+#![tactic(auto)]
+
 ghost use Rattle.std.specs.Prelude.{◌≡◌, ◌+◌, ◌%◌, ◌^◌, ◌≤◌, length, take};
 ghost use Rattle.carrying.specs.Post.{ended_as, Prints, PrintPost, PassPost, CarriedPost, ToStartPost};
 
@@ -13,7 +15,7 @@ use processor::Processor;
 pub const TURNS: u64 = 18446744073709551615;
 
 // A survey goes on; or it is over, by a refusal or at the end of the input; or a read or a write failed.
-#[derive(Drop)]
+#[derive(Clone, Copy)]
 pub enum Course {
     Goes,
     Over,
@@ -21,7 +23,7 @@ pub enum Course {
 }
 
 // A survey on its way: the processor, how many bytes at the start of the input buffer are not carried out yet, and how many bytes of input were.
-#[derive(Drop)]
+#[derive(Clone, Copy)]
 pub struct Survey {
     pub course: Course,
     pub processor: Processor,
@@ -41,7 +43,7 @@ pub fn ended(course: Course, p: Processor) -> Survey
 }
 
 // What a scan came to, and whether what it printed could be written.
-#[derive(Drop)]
+#[derive(Clone, Copy)]
 struct Passed {
     scan: Scan,
     processor: Processor,

@@ -1,4 +1,6 @@
 // Characters: whether they are hexadecimal digits, the value of one, and the byte of two.
+#![tactic(auto)]
+
 ghost use Rattle.std.specs.Prelude.{◌+◌, ◌*◌, ◌<◌, ◌≤◌, ◌≡◌, length, get_or, take};
 ghost use Rattle.characters.specs.Characters.{digit, is_digit_lem, are_digits_lem, Digits};
 

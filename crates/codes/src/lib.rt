@@ -1,5 +1,7 @@
 // What a reply's code says: the types of the answers, the pulses, and the identity of modes A and 2. The definitions are in specs/.
 // Every 16-bit word has an answer: nothing is asked of the caller.
+#![tactic(auto)]
+
 ghost use Rattle.std.specs.Prelude.{◌≡◌};
 ghost use Rattle.codes.specs.Pulses.{any_clear};
 ghost use Rattle.codes.specs.Identity.{twelve, identity};
@@ -10,7 +12,7 @@ use pulses::*;
 pub mod pulses;
 
 // The altitude of a mode C reply: feet; unsure, where one of the code's eleven pulses has confidence 0; or none.
-#[derive(Drop)]
+#[derive(Clone, Copy)]
 pub enum PressureAltitude {
     Feet(i32),
     Unsure,
@@ -18,14 +20,14 @@ pub enum PressureAltitude {
 }
 
 // The identity of a reply of mode A or 2: four octal digits; or unsure, where one of their twelve pulses has confidence 0.
-#[derive(Drop)]
+#[derive(Clone, Copy)]
 pub enum Squawk {
     Digits { a: u8, b: u8, c: u8, d: u8 },
     Unsure,
 }
 
 // What a reply says, by the mode of its sweep.
-#[derive(Drop)]
+#[derive(Clone, Copy)]
 pub enum Meaning {
     Altitude(PressureAltitude),
     Identity(Squawk),
@@ -33,7 +35,7 @@ pub enum Meaning {
 }
 
 // The code of a number of feet, or none where it is no altitude.
-#[derive(Drop)]
+#[derive(Clone, Copy)]
 pub enum Written {
     Code(u16),
     NoCode,

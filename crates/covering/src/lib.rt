@@ -1,4 +1,6 @@
 // The words of ticks of the four places at a block's start: those that each reply covers, and those at which a bracket removes it.
+#![tactic(auto)]
+
 ghost use Rattle.std.specs.Prelude.{◌<◌};
 ghost use Rattle.rules.specs.Replies.{covers, is_phantom};
 ghost use Rattle.covering.specs.Starts.{Tells, AllTell};

@@ -44,7 +44,7 @@ module _ (F : List ℕ) where
 
   chain_law : (t : ℕ) → chain_at F (suc (suc (suc (suc t)))) ≡ calm4 (suc (suc (suc (suc t)))) && (lead_at F t || chain_at F t)
   unfolding chain_at calm_at calm4
-  chain_law t = run.chain-law (lead_at F) (falls_at F) (age_at F) age-first age-step t
+  chain_law t = run.chain_law (lead_at F) (falls_at F) (age_at F) age-first age-step t
 
   -- leads and calm ticks of b to b+127 and the chain of b to b+63 give the chain of b+64 to b+127
   pub chain-is : (b l l₀ k k₀ h₀ : ℕ) → Holds (lead_at F) b l₀ → Holds (lead_at F) (b + 64) l → Holds (calm_at F) b k₀ → Holds (calm_at F) (b + 64) k → Holds (chain_at F) b h₀

@@ -2,6 +2,8 @@
 // Each contract says which plane of the trace a word holds, in the terms of the rules. A name with 0 at its end is the word of the 64 ticks before.
 // A trail shows two ticks late and an edge seven ticks after that, so the words of leads and calm ticks start two ticks before those of A, P and N,
 // and the words of edges seven ticks before those of leads.
+#![tactic(auto)]
+
 ghost use Rattle.edges.specs.Detection.{Leads, Trails, Chain, NoTrail, Long, Edges, Detected};
 
 // The leads of the 64 ticks that start two before those of a and p.
@@ -95,7 +97,7 @@ fn long(calm: u64, calm0: u64, chain: u64, chain0: u64) -> u64
 }
 
 // The words of the 64 ticks before: A, P, N, and the leads, calm ticks and chain, which start two ticks earlier.
-#[derive(Drop)]
+#[derive(Clone, Copy)]
 pub struct Past {
     pub a: u64,
     pub p: u64,
@@ -106,7 +108,7 @@ pub struct Past {
 }
 
 // Leads, calm ticks and chain up to two ticks before the newest, and edges up to nine before it.
-#[derive(Drop)]
+#[derive(Clone, Copy)]
 pub struct Found {
     pub lead: u64,
     pub calm: u64,

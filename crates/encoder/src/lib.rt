@@ -1,4 +1,6 @@
 // The altitude encoder: the code of a number of feet. Every number has an answer: nothing is asked of the caller.
+#![tactic(auto)]
+
 ghost use Rattle.std.specs.Prelude.{◌≡◌, ◌≤◌};
 ghost use Rattle.codes.specs.Pulses.{word_of};
 ghost use Rattle.codes.specs.Gray.{gray_of};

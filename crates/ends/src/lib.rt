@@ -1,9 +1,11 @@
 // Where a line ends.
+#![tactic(auto)]
+
 ghost use Rattle.std.specs.Prelude.{◌+◌, ◌≤◌, ◌≡◌, length};
 ghost use Rattle.ends.specs.Ends.{newline_in, passed_by, EndPost};
 
 // A line ends behind its newline, or behind 259 bytes without one, which are no line any more; or it goes on past the input.
-#[derive(Drop)]
+#[derive(Clone, Copy)]
 pub enum End {
     At(usize),
     Past,

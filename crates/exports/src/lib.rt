@@ -1,4 +1,6 @@
 // The answers as numbers, for programs in other languages.
+#![tactic(auto)]
+
 ghost use Rattle.std.specs.Prelude.{◌≡◌, ◌+◌, ◌*◌, ◌<◌, ◌^◌, pos};
 ghost use Rattle.codes.specs.Altitude.{altitude};
 ghost use Rattle.codes.specs.Identity.{identity};

@@ -1,4 +1,6 @@
 // The ticks of F1 of the four places: which replies are over, which of them cover a tick or make one military, and the reply that opens beside them.
+#![tactic(auto)]
+
 ghost use Rattle.std.specs.Prelude.{◌≡◌, ◌<◌};
 ghost use Rattle.rules.specs.Replies.{ended as ended', military as military'};
 ghost use Rattle.places.specs.Places.{test};
@@ -29,7 +31,7 @@ pub fn is_over(p: Place, u: Tick) -> bool
 }
 
 // The ticks of F1 of the four places; the highest number for an idle one.
-#[derive(Drop)]
+#[derive(Clone, Copy)]
 pub struct Firsts {
     pub a: Tick,
     pub b: Tick,

@@ -1,4 +1,6 @@
 // Frames as they are written: the lines that a survey prints.
+#![tactic(auto)]
+
 mod writing;
 
 pub use writing::{

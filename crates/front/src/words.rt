@@ -8,7 +8,7 @@ use packing::Planes;
 use plane::slide;
 
 // Words of 64 ticks, bit i for the i-th tick of the word; a 1 behind a name: the 64 ticks before.
-#[derive(Drop)]
+#[derive(Clone, Copy)]
 pub struct Front {
     // A, P and N of the ticks taken last
     pub a: u64,

@@ -1,4 +1,6 @@
 // The reply of a place, handed out once it is no longer open.
+#![tactic(auto)]
+
 ghost use Rattle.handing.specs.Post.{due_slot, HandedPost};
 
 use records::write_record;

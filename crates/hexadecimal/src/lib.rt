@@ -1,4 +1,6 @@
 // Bytes as hexadecimal digits, and a line of them.
+#![tactic(auto)]
+
 ghost use Rattle.std.specs.Prelude.{◌+◌, ◌*◌, ◌≤◌, ◌<◌, ◌≡◌, [], ◌∷◌, length};
 ghost use Rattle.rules.specs.Buffers.{over-at};
 ghost use Rattle.hexadecimal.specs.Digits.{hexadecimal, written, glyph as glyph'};

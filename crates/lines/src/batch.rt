@@ -19,14 +19,14 @@ const ROOM: usize = RECORD * REPLIES;
 const MOST: usize = REPLIES * REPLY_LINE;
 
 // n samples, from lines that end before `end`.
-#[derive(Drop)]
+#[derive(Clone, Copy)]
 struct Gathering {
     end: usize,
     n: usize,
 }
 
 // `from` is the place in the input behind the last line taken, `at` that in the output behind the last byte printed.
-#[derive(Drop)]
+#[derive(Clone, Copy)]
 pub struct Batched {
     pub processor: Processor,
     pub from: usize,

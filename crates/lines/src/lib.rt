@@ -1,4 +1,6 @@
 // What the lines of an input, as many as it has, make of a survey, and what they print.
+#![tactic(auto)]
+
 mod batch;
 mod scan;
 

@@ -8,7 +8,7 @@ use processor::Processor;
 use steps::Step;
 
 // What a scan came to: the rest of the input is the start of a line; the output has no more room; or a refusal has stopped the survey.
-#[derive(Drop)]
+#[derive(Clone, Copy)]
 pub enum Scan {
     Rest,
     Full,
@@ -16,7 +16,7 @@ pub enum Scan {
 }
 
 // `from` is the place in the input behind the last line carried out, `at` that in the output behind the last byte printed.
-#[derive(Drop)]
+#[derive(Clone, Copy)]
 pub struct Scanned {
     pub scan: Scan,
     pub processor: Processor,

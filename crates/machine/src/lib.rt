@@ -1,5 +1,7 @@
 // The machine at work: the flags of a piece go through it block by block, and of each block the edges at which something is to be done.
 // The array of the four places is changed where it stands; one place goes by value into a function and comes back.
+#![tactic(auto)]
+
 ghost use Rattle.std.specs.Prelude.{◌+◌, ◌<◌, ◌≡◌, length};
 ghost use Rattle.places.specs.Places.{idle};
 ghost use Rattle.blocks.specs.Feeding.{BlocksPost};

@@ -1,4 +1,6 @@
 // Words of ticks beside the four places: bit i of a place's word says that its reply covers tick i of the block, or that a bracket there removes it.
+#![tactic(auto)]
+
 ghost use Rattle.std.specs.Prelude.{◌<◌, ◌≡◌, cond};
 ghost use Rattle.plane.specs.Words.{bit};
 ghost use Rattle.marking.specs.Marks.{with_word_lem, without_word_lem, AnyWord, TwiceWord, which_in, last_in, behind_of};
@@ -6,7 +8,7 @@ ghost use Rattle.marking.specs.Marks.{with_word_lem, without_word_lem, AnyWord, 
 use plane::marked;
 
 // A word of ticks for each of the four places.
-#[derive(Drop)]
+#[derive(Clone, Copy)]
 pub struct Words {
     pub a: u64,
     pub b: u64,

@@ -1,4 +1,6 @@
 // Words of a block's 64 ticks: those that a reply covers, and those at which a bracket removes it.
+#![tactic(auto)]
+
 ghost use Rattle.std.specs.Prelude.{ℕ, ◌+◌, ◌<◌, ◌≡◌};
 ghost use Rattle.masks.specs.Masks.{cover_word_lem, phantom_word_lem, Across, covers_from, CoverMask, PhantomMask};
 

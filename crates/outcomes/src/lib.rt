@@ -1,4 +1,6 @@
 // What becomes of a bracket, by the ticks of the four places' F1 and their words of ticks.
+#![tactic(auto)]
+
 ghost use Rattle.std.specs.Prelude.{◌<◌, ◌≡◌};
 ghost use Rattle.outcomes.specs.Outcomes.{OutcomePost, removed_by_lem, is_opening, phantom_more_lem, counted_by};
 
@@ -10,7 +12,7 @@ use replies::plus;
 use rules::{Counts, Fate, Pulse, Tick};
 
 // What becomes of a bracket. A phantom that it removes, with its place, is removed first, and the bracket tried again.
-#[derive(Drop)]
+#[derive(Clone, Copy)]
 pub enum Outcome {
     Sidelobe,
     Removes(usize),

@@ -1,8 +1,10 @@
 // From flag bytes, one a tick, to planes: a word of A, one of P, one of N, one of M.
+#![tactic(auto)]
+
 ghost use Rattle.std.specs.Prelude.{◌+◌, ◌≤◌, ◌≡◌, length};
 ghost use Rattle.packing.specs.Packing.{Four, Eight, Nibbles, Turn, Low, High, Packed, PackedPart};
 
-#[derive(Drop)]
+#[derive(Clone, Copy)]
 pub struct Planes {
     pub a: u64,
     pub p: u64,

@@ -1,4 +1,6 @@
 // The ticks past the end of a sweep, which count as zero, on their way through the machine. What a piece of a sweep makes of it is a law, in proofs/Pieces.antt.
+#![tactic(auto)]
+
 ghost use Rattle.std.specs.Prelude.{◌<◌};
 ghost use Rattle.pieces.specs.Feeding.{DrainPost};
 

@@ -1,5 +1,7 @@
 // A sweep by calls: opened, taken piece by piece and closed, each by its operation. What it answers is proved by the theorem over lists of calls
 // (crates/calls/specs/Whole.antt), for the list of the calls that it makes.
+#![tactic(auto)]
+
 ghost use Rattle.std.specs.Prelude.{◌≡◌, length};
 ghost use Rattle.rules.specs.Calls.{accepted};
 ghost use Rattle.rules.specs.Records.{totals_size};
@@ -16,7 +18,7 @@ use takes::{Reached, least};
 use whole_refusals::whole_refusal;
 
 // How many replies were handed out in all, or the number of a refusal; and the totals.
-#[derive(Drop)]
+#[derive(Clone, Copy)]
 pub struct Swept {
     pub answer: Answer,
     pub totals: Totals,

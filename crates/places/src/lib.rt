@@ -1,4 +1,6 @@
 // The four places in order of F1, the idle ones last, and the counts.
+#![tactic(auto)]
+
 ghost use Rattle.std.specs.Prelude.{◌≡◌, ◌||◌, cond, replicate};
 ghost use Rattle.replies.specs.Sums.{wrapped};
 ghost use Rattle.rules.specs.Machine.{start, opened_by_lem, tally};

@@ -1,5 +1,7 @@
 // Planes, facts of each tick, in words of 64 ticks: bit i of a word is the fact of tick b+i, where b is the word's first tick.
 // Moving a word on, and going through its set bits.
+#![tactic(auto)]
+
 ghost use Rattle.std.specs.Prelude.{◌<◌, ◌≤◌, ◌≡◌};
 ghost use Rattle.plane.specs.Words.{bit, Slid, Lowest, WithoutLowest};
 

@@ -1,4 +1,6 @@
 // The processor between calls, and a piece on its way through it.
+#![tactic(auto)]
+
 ghost use Rattle.std.specs.Prelude.{◌≡◌, length};
 ghost use Rattle.marking.specs.Marks.{four};
 ghost use Rattle.rules.specs.Samples.{nothing};
@@ -11,7 +13,7 @@ use rules::{Counts, Opening, Place};
 
 // With mode 0 no sweep is open. `recent` holds the values of the last 256 ticks, the newest last. The open replies stand in the four places in order of F1, then
 // come the idle places.
-#[derive(Drop)]
+#[derive(Clone, Copy)]
 pub struct Processor {
     pub opening: Opening,
     pub taken: u32,
@@ -46,7 +48,7 @@ pub fn idle() -> Processor
 }
 
 // How far a piece has come: the words, the four places and the counts so far, and the place in the buffer behind the last record.
-#[derive(Drop)]
+#[derive(Clone, Copy)]
 pub struct Progress {
     pub front: Front,
     pub places: [Place; 4],

@@ -1,4 +1,6 @@
 // Frames, one a line: what a line says, or the number with which it is refused.
+#![tactic(auto)]
+
 mod samples;
 
 ghost use Rattle.std.specs.Prelude.{◌≤◌, ◌≡◌, length};
@@ -10,7 +12,7 @@ use rules::Opening;
 use samples::fill;
 
 // Open, so many samples, or close.
-#[derive(Drop)]
+#[derive(Clone, Copy)]
 pub enum Frame {
     Open(Opening),
     Samples(usize),
@@ -18,7 +20,7 @@ pub enum Frame {
 }
 
 // What a line is: a frame, or refused with 9 or 10.
-#[derive(Drop)]
+#[derive(Clone, Copy)]
 pub enum Line {
     Frame(Frame),
     Refused(u8),

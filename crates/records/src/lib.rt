@@ -1,4 +1,6 @@
 // The record of a reply, byte by byte.
+#![tactic(auto)]
+
 ghost use Rattle.std.specs.Prelude.{◌≡◌, ◌+◌, ◌≤◌, length};
 ghost use Rattle.rules.specs.Records.{record_of, record_size};
 ghost use Rattle.rules.specs.Buffers.{over-at};

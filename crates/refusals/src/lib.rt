@@ -1,5 +1,7 @@
 // Which number turns a call down: the first of its list that holds, or 0. A function for each call, of numbers and slices alone.
 // Asks nothing of its caller.
+#![tactic(auto)]
+
 ghost use Rattle.std.specs.Prelude.{◌≡◌, ltb};
 ghost use Rattle.rules.specs.Samples.{lent};
 ghost use Rattle.rules.specs.Calls.{open_answer, take_answer, close_answer, take_room};

@@ -1,4 +1,6 @@
 // One reply: tests by ticks, what it agrees with, and what an edge settles. Numbers in, numbers out.
+#![tactic(auto)]
+
 ghost use Rattle.std.specs.Prelude.{◌≡◌, ◌<◌, if◌then◌else◌, nat_eq};
 ghost use Rattle.replies.specs.Sums.{wrapped, word_plus};
 ghost use Rattle.rules.specs.declared.Reply.{Reply};

@@ -1,29 +1,30 @@
 // The types of the domain. The rules themselves are in specs/, their laws in proofs/.
+#![tactic(auto)]
 
 // A clock tick of 1.45 us / 12, counted from 0 at the opening of the sweep.
-#[derive(Drop)]
+#[derive(Clone, Copy)]
 pub struct Tick(pub u32);
 
 // A range in counts of 60.4 ns: twice a tick number.
-#[derive(Drop)]
+#[derive(Clone, Copy)]
 pub struct Range(pub u32);
 
 // What a sweep is opened with: mode 1 (A), 2 (2) or 3 (C), and an azimuth from 0 to 16,383 for the whole sweep.
-#[derive(Drop)]
+#[derive(Clone, Copy)]
 pub struct Opening {
     pub mode: u8,
     pub azimuth: u16,
 }
 
 // The reference of a lone pulse (N = 1), or an average (N of 2 or more).
-#[derive(Drop)]
+#[derive(Clone, Copy)]
 pub enum Estimate {
     Lone(f64),
     Average(f64),
 }
 
 // The reference, the number N of the values that went into it, and their sum S.
-#[derive(Drop)]
+#[derive(Clone, Copy)]
 pub struct Reference {
     pub estimate: Estimate,
     pub n: u16,
@@ -32,7 +33,7 @@ pub struct Reference {
 
 // A bit for each position of a reply: it is settled; it has code 1; it has confidence 0.
 // Bits 0 to 13 are positions 1 to 14, bit 14 is position 17.
-#[derive(Drop)]
+#[derive(Clone, Copy)]
 pub struct Word {
     pub settled: u16,
     pub code: u16,
@@ -40,7 +41,7 @@ pub struct Word {
 }
 
 // What is fixed when a reply opens: it is a potential phantom; it is military; its reference is F2; its reference pulse has M.
-#[derive(Drop)]
+#[derive(Clone, Copy)]
 pub struct Marks {
     pub suspect: bool,
     pub military: bool,
@@ -48,7 +49,7 @@ pub struct Marks {
     pub main: bool,
 }
 
-#[derive(Drop)]
+#[derive(Clone, Copy)]
 pub struct Reply {
     pub f1: Tick,
     pub marks: Marks,
@@ -56,20 +57,20 @@ pub struct Reply {
     pub reference: Reference,
 }
 
-#[derive(Drop)]
+#[derive(Clone, Copy)]
 pub enum Slot {
     Idle,
     Open(Reply),
 }
 
 // One of the four decoders.
-#[derive(Drop)]
+#[derive(Clone, Copy)]
 pub struct Place {
     pub slot: Slot,
 }
 
 // Brackets found, and what became of them: replies opened, sidelobe, garbled, lost. Of the replies opened, phantoms were removed.
-#[derive(Drop)]
+#[derive(Clone, Copy)]
 pub struct Counts {
     pub found: u16,
     pub opened: u16,
@@ -80,7 +81,7 @@ pub struct Counts {
 }
 
 // An edge as the machine takes it: its tick, its M and its value.
-#[derive(Drop)]
+#[derive(Clone, Copy)]
 pub struct Pulse {
     pub tick: Tick,
     pub main: bool,
@@ -88,14 +89,14 @@ pub struct Pulse {
 }
 
 // The F2 of the bracket at an edge, if one stands there.
-#[derive(Drop)]
+#[derive(Clone, Copy)]
 pub enum Bracket {
     Without,
     With(Pulse),
 }
 
 // What becomes of a bracket.
-#[derive(Drop)]
+#[derive(Clone, Copy)]
 pub enum Fate {
     Sidelobe,
     Garbled,
@@ -113,7 +114,7 @@ pub const MOST_LEFT: usize = 8;
 pub const CLOSE_ROOM: usize = RECORD * MOST_LEFT;
 
 // The six totals of a sweep. Replies are those opened and not removed.
-#[derive(Drop)]
+#[derive(Clone, Copy)]
 pub struct Totals {
     pub found: u16,
     pub replies: u16,

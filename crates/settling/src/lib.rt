@@ -1,4 +1,6 @@
 // What an edge makes of a place that covers it: a position is settled.
+#![tactic(auto)]
+
 ghost use Rattle.std.specs.Prelude.{◌≡◌, ◌<◌, if◌then◌else◌, nat_eq};
 ghost use Rattle.rules.specs.Replies.{verdict, average as average'};
 ghost use Rattle.replies.specs.Sums.{wrapped};

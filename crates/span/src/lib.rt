@@ -1,4 +1,6 @@
 // The machine's view of 64 ticks u: words of the edges at u and at the three places of an F2, and of the M of each.
+#![tactic(auto)]
+
 ghost use Rattle.std.specs.Prelude.{◌+◌, ◌-◌, ◌<◌, ◌≤◌, ◌≡◌, cond};
 ghost use Rattle.plane.specs.Words.{bit};
 ghost use Rattle.span.specs.Spans.{SpanPost, TopPost, AbovePost, has_bracket_lem, sooner_in, later_in};
@@ -9,7 +11,7 @@ use plane::{marked, slide};
 use rules::Tick;
 
 // The 64 ticks u that the machine can work, as words: edges at u, at u+168, at u+167 and at u+169, and the M of each.
-#[derive(Drop)]
+#[derive(Clone, Copy)]
 pub struct Span {
     pub due: u64,
     pub at168: u64,

@@ -1,4 +1,6 @@
 // What is printed of an answer, and whether the survey goes on. `specs/Outcomes.antt` says what each kind of line is to make of it.
+#![tactic(auto)]
+
 ghost use Rattle.steps.specs.Post.{TakeShown, CloseShown, RestPost};
 
 use calls::Answer;
@@ -14,14 +16,14 @@ pub const LINE_ROOM: usize = RECORD * 4;
 
 // The survey goes on, or stops with the number of a refusal, and has printed up to a place in the buffer; or the buffer has no room for what a
 // line may print.
-#[derive(Drop)]
+#[derive(Clone, Copy)]
 pub enum Step {
     Goes(usize),
     Stops(u8, usize),
     Full,
 }
 
-#[derive(Drop)]
+#[derive(Clone, Copy)]
 pub struct Stepped {
     pub step: Step,
     pub processor: Processor,

@@ -2,6 +2,8 @@
 // What the lines print is proved in the crate `lines`; that just these bytes are printed, and that the rest of a read is kept, in the crate `carrying`.
 // What a read gives and a write does is not in a contract. Standard error gets one line: which refusal stopped the survey and after how many bytes of
 // input, or what could not be read or written.
+#![tactic(auto)]
+
 ghost use Rattle.std.specs.Prelude.{◌≤◌, length};
 ghost use Rattle.ends.specs.Ends.{LinePast};
 ghost use Rattle.survey.specs.Post.{Going, Stands, ReadPost};
@@ -13,7 +15,7 @@ use processor::{Processor, idle};
 use steps::{Step, rest_step};
 
 // A read gave bytes more, or nothing as a signal interrupted it; or the input is at its end; or the read failed.
-#[derive(Drop)]
+#[derive(Clone, Copy)]
 enum Came {
     More,
     End,
@@ -22,7 +24,7 @@ enum Came {
 }
 
 // What a read gave, and how many bytes of the input buffer are in use then.
-#[derive(Drop)]
+#[derive(Clone, Copy)]
 struct Read {
     came: Came,
     n: usize,

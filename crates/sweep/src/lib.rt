@@ -1,5 +1,7 @@
 // Opening, taking and closing a sweep. A processor goes in by value and comes back by value; a refusal gives back the one that went in.
 // No operation asks anything of its caller: any processor value, any slices and any buffer are safe.
+#![tactic(auto)]
+
 ghost use Rattle.std.specs.Prelude.{◌+◌, ◌≤◌, ◌≡◌, length};
 ghost use Rattle.rules.specs.Samples.{lent, sweep_limit};
 ghost use Rattle.calls.specs.Post.{open_of, TakePost, TakenPiece, ClosePost, ClosedOpen};

@@ -1,4 +1,6 @@
 // All pieces of a sweep whose trace is lent whole, one after the other.
+#![tactic(auto)]
+
 ghost use Rattle.std.specs.Prelude.{◌+◌, ◌-◌, ◌*◌, ◌/◌, ◌≤◌, ◌<◌, min, ◌≡◌, length, get_or};
 ghost use Rattle.rules.specs.Records.{record_size};
 ghost use Rattle.places.specs.Places.{idle};
@@ -13,7 +15,7 @@ use processor::{Processor, Progress, moved, progress_of};
 use rules::{Place, RECORD};
 
 // The processor after some pieces, and the place in the buffer behind the last record.
-#[derive(Drop)]
+#[derive(Clone, Copy)]
 pub struct Reached {
     pub processor: Processor,
     pub at: usize,

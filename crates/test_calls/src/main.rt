@@ -23,6 +23,8 @@
 //  920  the counts: found, opened, sidelobe, garbled, lost, phantoms
 // A processor that is not shown is 904 bytes of the buffer's filling. A refused opening shows the processor that it gave, and the next call goes on with the
 // one that there was.
+#![tactic(auto)]
+
 mod outcomes;
 
 ghost use Rattle.std.specs.Prelude.{◌≤◌, length};
@@ -43,7 +45,7 @@ const TOLD: usize = 968;
 const OUTCOME: usize = 3016;
 
 // A call as it was read.
-#[derive(Drop)]
+#[derive(Clone, Copy)]
 struct Call {
     kind: u8,
     shown: u8,
@@ -59,7 +61,7 @@ struct Call {
 }
 
 // The processor after a call, and whether a further call is to be read.
-#[derive(Drop)]
+#[derive(Clone, Copy)]
 struct Step {
     going: bool,
     processor: Processor,

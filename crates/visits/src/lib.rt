@@ -1,4 +1,6 @@
 // Which edges of a block the machine visits, and the edges themselves.
+#![tactic(auto)]
+
 ghost use Rattle.std.specs.Prelude.{◌+◌, ◌≤◌, ◌<◌, ◌≡◌};
 ghost use Rattle.visits.specs.Visits.{Wanted, edge_in, apart_in, second_in};
 

@@ -1,4 +1,6 @@
 // A whole sweep in one call, on numbers and byte buffers, for a program in C: opened, taken in pieces, closed.
+#![tactic(auto)]
+
 ghost use Rattle.std.specs.Prelude.{◌≤◌, ◌≡◌, length};
 ghost use Rattle.rules.specs.Records.{totals_size};
 ghost use Rattle.whole_refusals.specs.Whole.{whole_answer};

@@ -1,4 +1,6 @@
 // Which number turns a whole sweep in one call down: the first of its list that holds, or 0. A function of numbers and slices alone; asks nothing of its caller.
+#![tactic(auto)]
+
 ghost use Rattle.std.specs.Prelude.{◌≤◌, ◌≡◌, length};
 ghost use Rattle.rules.specs.Samples.{lent};
 ghost use Rattle.refusals.specs.Numbers.{answer_numbered};

@@ -1,0 +1,10 @@
+-- `detect` answers what its parts find, each from the words before.
+use Rattle.edges.proofs.Detecting.{detected}
+use Rattle.edges.proofs.detect.Goals as goal
+
+pub returns : goal.returns
+returns c =
+    record {
+      holds = detected c.args.past c.leads-lead.ensures c.trails-trail.ensures
+          c.chain-links.ensures c.edges-edge.ensures;
+    }

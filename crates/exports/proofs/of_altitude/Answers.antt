@@ -1,0 +1,17 @@
+use mathlib.Core.Path.{sym, ap, ◌∙◌}
+use mir.Syntax.{w32}
+use mir.ValLaws.{to_z-of_z}
+use Rattle.exports.specs.Numbers.{altitude_number_lem}
+use borrow.Author.Rules.{rules}
+use Rattle.exports.proofs.of_altitude.Goals as goal
+
+pub returns-in-Feet : goal.returns-in-Feet
+returns-in-Feet c =
+    let x = c.x-1 in
+    to_z-of_z w32 x.given.0.0 (search rules) ∙ sym (ap altitude_number_lem x.given.1)
+
+pub returns-in-Unsure : goal.returns-in-Unsure
+returns-in-Unsure c = sym (ap altitude_number_lem c.in-Unsure.is)
+
+pub returns-in-NoAltitude : goal.returns-in-NoAltitude
+returns-in-NoAltitude c = sym (ap altitude_number_lem c.in-NoAltitude.is)

@@ -1,0 +1,14 @@
+-- `marking::behind` meets its contract.
+use native.Mathlib.Omega.{arith}
+use Rattle.marking.proofs.Marking.{behind-before, behind-after}
+use Rattle.marking.proofs.behind.Goals as goal
+
+pub returns-then-j-k : goal.returns-then-j-k
+returns-then-j-k c =
+    let a = c.args in
+    behind-before a.j a.k (omega arith) c.if-j-k.true
+
+pub returns : goal.returns
+returns c =
+    let a = c.args in
+    behind-after a.j a.k (omega arith) c.if-j-k.false

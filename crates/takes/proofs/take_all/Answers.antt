@@ -1,0 +1,57 @@
+-- `take_all` takes one piece after the other. The invariant: i ticks are taken, what is due is in the buffer, and the first `kept` values are kept.
+use Prim.Native.Nat.{ℕ, ◌+◌, ◌-◌}
+use native.Mathlib.Omega.{arith}
+use mathlib.Core.Path.{refl, ap}
+use Rattle.takes.proofs.Taking.{all-bytes, part-ends}
+use Rattle.takes.proofs.Keeping.{late_start, late_fed, late_quiet, late_end}
+use Rattle.takes.proofs.take_all.Goals as goal
+
+pub loop-i-init : goal.loop-i-init
+loop-i-init c =
+    let progressof = c.progress_of-y in
+    let a = c.args in
+    late_start a.p (record { flags = a.flags.now; values = a.values.now }) a.piece a.out.now c.requires.0 progressof.result progressof.ensures
+
+pub loop-i-preserved-then-is_quiet : goal.loop-i-preserved-then-is_quiet
+loop-i-preserved-then-is_quiet c =
+    let firstplace = c.first_place-first in
+    let l = c.loop-i in
+    let a = c.args in
+    late_quiet a.p (record { flags = a.flags.now; values = a.values.now }) a.piece a.out.now c.requires.0 l.y l.recent l.auto l.at l.i _ l.out l.invariant c.loop-i-test.true (ap (λ (n : ℕ). l.i + n) c.least.ensures) (all-bytes a.values.now (λ k. omega (arith, c.type_inv.values k))) firstplace.result _ firstplace.ensures c.is_quiet.ensures c.if-is_quiet.true
+
+pub keep_part-requires : goal.keep_part-requires
+keep_part-requires c = (c.loop-i.invariant.behind, omega (arith, c.loop-i.invariant.takings.reach, c.requires.0))
+
+pub work-y-requires : goal.work-y-requires
+work-y-requires c =
+    let l = c.loop-i in
+    part-ends c.args.flags.now l.i (l.i + c.least.result - l.i) c.loop-i-test.true c.requires.2
+
+pub keep_part-requires-in-loop-i : goal.keep_part-requires-in-loop-i
+keep_part-requires-in-loop-i c = (omega arith, omega (arith, c.least.ensures, c.requires.0, c.loop-i-test.true))
+
+pub behind-at-requires : goal.behind-at-requires
+behind-at-requires c = omega (arith, c.loop-i.invariant.takings.inside, c.loop-i.invariant.takings.size)
+
+pub loop-i-smaller : goal.loop-i-smaller
+loop-i-smaller c = omega (arith, c.least.ensures, c.requires.1, c.loop-i-test.true)
+
+pub loop-i-preserved : goal.loop-i-preserved
+loop-i-preserved c =
+    let out = c.out-1 in
+    let work = c.work-y in
+    let l = c.loop-i in
+    let a = c.args in
+    late_fed a.p (record { flags = a.flags.now; values = a.values.now }) a.piece a.out.now c.requires.0 l.y l.recent l.auto l.at l.i _ l.out l.invariant c.loop-i-test.true (ap (λ (n : ℕ). l.i + n) c.least.ensures) (all-bytes a.values.now (λ k. omega (arith, c.type_inv.values k))) _ _ c.keep_part.ensures c.keep_part-in-loop-i.ensures work.result _ _ work.ensures (omega (arith, c.behind-at.ensures, out.given)) (omega (arith, out.given))
+
+pub keep_part-requires-2 : goal.keep_part-requires-2
+keep_part-requires-2 c = (omega (arith, c.loop-i.invariant.behind, c.loop-i.invariant.takings.reach), omega (arith, c.requires.0))
+
+pub shape_of-out : goal.shape_of-out
+shape_of-out c = c.loop-i.invariant.takings.size
+
+pub returns : goal.returns
+returns c =
+    let l = c.loop-i in
+    let a = c.args in
+    late_end a.p (record { flags = a.flags.now; values = a.values.now }) a.piece a.out.now c.requires.0 l.y l.recent l.auto l.at l.i _ l.out _ _ (omega arith) refl c.keep_part-2.ensures c.arrived.ensures l.invariant
