@@ -1,6 +1,7 @@
 use mathlib.Core.Path.{sym, ap, ◌∙◌}
 use Rattle.codes.specs.Altitude.{hundreds}
 use Rattle.altitudes.proofs.AltitudeLaws.{no-group}
+use native.Mathlib.Omega.{arith}
 use Rattle.altitudes.proofs.hundreds_of.Goals as goal
 
 pub returns-in-1 : goal.returns-in-1
@@ -20,5 +21,4 @@ returns-in-4 c = ap hundreds (sym c.in-4.is ∙ c.weighted-group.ensures)
 
 pub returns-in_default : goal.returns-in_default
 returns-in_default c =
-    let other = c.in_default-own.rest in
-    no-group c.weighted-group.result other.0.0.0.0.1 other.0.0.0.1 other.0.0.1 other.0.1 other.1 ∙ ap hundreds c.weighted-group.ensures
+    no-group c.weighted-group.result (λ e. omega arith) (λ e. omega arith) (λ e. omega arith) (λ e. omega arith) (λ e. omega arith) ∙ ap hundreds c.weighted-group.ensures

@@ -2,6 +2,7 @@ use mathlib.Core.Path.{sym, ap, ◌∙◌}
 use Rattle.altitudes.proofs.MeaningLaws.{mode_1, mode_2, mode_3, no_mode_lem}
 use Rattle.codes.specs.Answers.{meaning_as}
 use Rattle.codes.specs.declared.Meaning.TheVariants.{Altitude, Identity}
+use native.Mathlib.Omega.{arith}
 use Rattle.altitudes.proofs.meaning_of.Goals as goal
 
 pub returns-in-3 : goal.returns-in-3
@@ -22,4 +23,4 @@ returns-in-2 c =
 pub returns-in_default : goal.returns-in_default
 returns-in_default c =
     let a = c.args in
-    sym (ap meaning_as (no_mode_lem a.mode a.code a.confidence c.in_default-own.rest.0.0.1 c.in_default-own.rest.0.1 c.in_default-own.rest.1))
+    sym (ap meaning_as (no_mode_lem a.mode a.code a.confidence (λ e. omega arith) (λ e. omega arith) (λ e. omega arith)))

@@ -4,4 +4,4 @@ use Rattle.marking.proofs.Marking.{digit_law}
 use Rattle.marking.proofs.digit.Goals as goal
 
 pub returns : goal.returns
-returns c = (digit_law c.args.x c.args.i, omega arith)
+returns c = record { is = digit_law c.args.x c.args.i; below = omega arith }

@@ -1,6 +1,7 @@
 use Rattle.masks.specs.Masks.{cover_word_lem}
 use Rattle.masks.proofs.MaskLaws.{cover-rest}
 use mathlib.Core.Path.{sym, ap}
+use native.Mathlib.Omega.{arith}
 use Rattle.masks.proofs.cover_word.Goals as goal
 
 pub returns-in-1 : goal.returns-in-1
@@ -16,4 +17,4 @@ pub returns-in-4 : goal.returns-in-4
 returns-in-4 c = ap cover_word_lem (sym c.in-4.is)
 
 pub returns-in_default : goal.returns-in_default
-returns-in_default c = cover-rest c.args.k c.in_default-own.rest.0.0.0.1 c.in_default-own.rest.0.0.1 c.in_default-own.rest.0.1 c.in_default-own.rest.1
+returns-in_default c = cover-rest c.args.k (λ e. omega arith) (λ e. omega arith) (λ e. omega arith) (λ e. omega arith)

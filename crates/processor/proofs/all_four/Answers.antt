@@ -6,4 +6,4 @@ use borrow.Author.Rules.{rules}
 use Rattle.processor.proofs.all_four.Goals as goal
 
 pub returns : goal.returns
-returns c = let size : length c.args.p ≡ 4 = search rules in (refl, (size, all_listed _ size))
+returns c = let size : length c.args.p ≡ 4 = search rules in record { is = refl; size = size; named = all_listed _ size }

@@ -5,4 +5,4 @@ pub returns : goal.returns
 returns c =
     let a = c.args in
     let p = a.p in
-    λ i. record { opening = p.opening; taken = a.taken; front = a.y.front; recent = a.recent; places = c.all_four.ensures.1.1 i; counts = a.y.counts }
+    λ i. record { opening = p.opening; taken = a.taken; front = a.y.front; recent = a.recent; places = c.all_four.ensures.named i; counts = a.y.counts }

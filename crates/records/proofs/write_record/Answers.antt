@@ -61,5 +61,5 @@ returns c =
     let put8 = c.put8 in
     written args.r _ wide.result wide2.result flags_of.result wide3.result bits_of.result
     (record { range-is = range-of.ensures; code_is = wide.ensures; sure_is = wide2.ensures ∙ confidence-of.ensures; flags-is = flags_of.ensures; sum_is = wide3.ensures; bits_is = bits_of.ensures ∙ ap (to_bits binary64) level-of.ensures })
-    args.at args.out.now (pre) put2.new.0 put22.new.0 put23.new.0 put1.new.0 put12.new.0 put24.new.0
-    put8.new.0 put2.ensures put22.ensures put23.ensures put1.ensures put12.ensures put24.ensures put8.ensures
+    args.at args.out.now (pre) put2.new.out put22.new.out put23.new.out put1.new.out put12.new.out put24.new.out
+    put8.new.out put2.ensures put22.ensures put23.ensures put1.ensures put12.ensures put24.ensures put8.ensures

@@ -16,5 +16,4 @@ returns c =
     let digit = c.digit in
     let later = c.later in
     let a = c.args in
-    let good = c.well_formed in
-    (apart-is a.s.at168 a.s.at167 a.i (omega (arith, good)) (omega (arith, good)) c.requires later.result sooner.result digit.result c.digit-2.result later.ensures sooner.ensures digit.ensures c.digit-2.ensures, omega (arith, digit.ensures, cond-most (bit later.result a.i) 1 0 1 (omega arith) (omega arith)))
+    record { is = apart-is a.s.at168 a.s.at167 a.i (omega arith) (omega arith) c.requires later.result sooner.result digit.result c.digit-2.result later.ensures sooner.ensures digit.ensures c.digit-2.ensures; most = omega (arith, digit.ensures, cond-most (bit later.result a.i) 1 0 1 (omega arith) (omega arith)) }

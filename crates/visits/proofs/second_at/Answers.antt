@@ -7,7 +7,7 @@ use Rattle.visits.proofs.second_at.Goals as goal
 pub returns : goal.returns
 returns c =
     let a = c.args in
-    let w = c.second_tick-w.ensures.0 in
+    let w = c.second_tick-w.ensures.is in
     λ j. record {
       tick = record { 0 = w j };
       main = c.second_main-main.ensures j;
