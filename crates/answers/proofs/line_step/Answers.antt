@@ -2,7 +2,7 @@ use native.Mathlib.Omega.{arith}
 use Prim.Native.Nat.{◌+◌}
 use lib.ListN.{length}
 use mathlib.Core.Path.{refl, sym, ◌∙◌}
-use borrow.Author.Tests.{not-true, not-false, leb-true}
+use borrow.Author.Tests.{leb-true}
 use Rattle.steps.specs.Post.{line_most}
 use Rattle.steps.proofs.Answering.{full_post, flags-lent, values-lent, said-most, step_post}
 use Rattle.answers.proofs.line_step.Goals as goal
@@ -20,9 +20,8 @@ slice_bounds-answer_line-end-2 c = values-lent c.args.line.now _ _ _ _ _ c.read-
 
 pub answer_line-requires : goal.answer_line-requires
 answer_line-requires c =
-    let read = c.read-said in
     let a = c.args in
-    (said-most a.line.now _ _ _ _ _ read.ensures, omega (arith, said-most a.line.now _ _ _ _ _ read.ensures, flags-lent a.line.now _ _ _ _ _ read.ensures refl), omega (arith, said-most a.line.now _ _ _ _ _ read.ensures, values-lent a.line.now _ _ _ _ _ read.ensures refl), leb-true (a.at + line_most) (length a.out.now) (sym c.has_room.ensures ∙ c.if-not-has_room.false))
+    (said-most a.line.now _ _ _ _ _ c.read-said.ensures, omega (arith, said-most a.line.now _ _ _ _ _ c.read-said.ensures, flags-lent a.line.now _ _ _ _ _ c.read-said.ensures refl), omega (arith, said-most a.line.now _ _ _ _ _ c.read-said.ensures, values-lent a.line.now _ _ _ _ _ c.read-said.ensures refl), leb-true (a.at + line_most) (length a.out.now) (sym c.has_room.ensures ∙ c.if-not-has_room.false))
 
 pub returns : goal.returns
 returns c =

@@ -1,7 +1,6 @@
 -- `stays` asks of the planes, then of the words, then of the first place.
 use mathlib.Core.Path.{sym, ◌∙◌}
 use mathlib.Core.Bool.{◌&&◌}
-use borrow.Author.Tests.{not-true, not-false}
 use Rattle.rules.proofs.Truth.{and_no, and_then}
 use Rattle.front.specs.Post.{blank}
 use Rattle.blocks.specs.Steps.{flagless, none_due_lem}

@@ -9,4 +9,4 @@ returns c =
     let coverof2 = c.cover_of-2 in
     let coverof = c.cover_of in
     let a = c.args in
-    all_tell covers a.t.0 coverof.result coverof2.result coverof3.result c.cover_of-4.result a.t1 coverof.ensures coverof2.ensures coverof3.ensures c.cover_of-4.ensures
+    all_tell covers a.t.0 coverof.result coverof2.result coverof3.result c.cover_of-4.result a.p coverof.ensures coverof2.ensures coverof3.ensures c.cover_of-4.ensures

@@ -9,4 +9,4 @@ returns c =
     let riskof2 = c.risk_of-2 in
     let riskof = c.risk_of in
     let a = c.args in
-    all_tell is_phantom a.t.0 riskof.result riskof2.result riskof3.result c.risk_of-4.result a.t1 riskof.ensures riskof2.ensures riskof3.ensures c.risk_of-4.ensures
+    all_tell is_phantom a.t.0 riskof.result riskof2.result riskof3.result c.risk_of-4.result a.p riskof.ensures riskof2.ensures riskof3.ensures c.risk_of-4.ensures

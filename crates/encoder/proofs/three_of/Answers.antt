@@ -20,5 +20,5 @@ returns-in-4 c = ap (λ (h : ℕ). word_of three (group_of h)) (sym c.in-4.is)
 
 pub returns-in_default : goal.returns-in_default
 returns-in_default c =
-    let five : 5 ≡ c.args.h = omega (arith, c.requires.0, c.requires.1, (λ e. omega arith), (λ e. omega arith), (λ e. omega arith), (λ e. omega arith)) in
+    let five : 5 ≡ c.args.h = omega (arith, c.requires.0, c.requires.1) in
     ap (λ (h : ℕ). word_of three (group_of h)) five

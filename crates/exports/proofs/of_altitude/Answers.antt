@@ -7,8 +7,7 @@ use Rattle.exports.proofs.of_altitude.Goals as goal
 
 pub returns-in-Feet : goal.returns-in-Feet
 returns-in-Feet c =
-    let x = c.x-1 in
-    to_z-of_z w32 x.given.0.0 (search rules) ∙ sym (ap altitude_number_lem x.given.1)
+    to_z-of_z w32 c.in-Feet.feet (search rules) ∙ sym (ap altitude_number_lem c.in-Feet.is)
 
 pub returns-in-Unsure : goal.returns-in-Unsure
 returns-in-Unsure c = sym (ap altitude_number_lem c.in-Unsure.is)

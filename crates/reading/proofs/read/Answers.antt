@@ -1,4 +1,3 @@
-use borrow.Author.Tests.{not-true, not-false}
 use Rattle.reading.proofs.Reading.{formed, samples-digits, read_9, read_other, read-open_10, read-open, read_uneven, read_none, read-samples, read-close_10, read-close}
 use Rattle.reading.proofs.Pairs.{two_digits}
 use lib.ListN.{length}
@@ -17,87 +16,63 @@ overflow_sub-m c = omega (arith, (formed c.args.line.now (sym c.well_formed.ensu
 
 pub byte_at-kind-requires : goal.byte_at-kind-requires
 byte_at-kind-requires c =
-    let wellformed = c.well_formed in
     let a = c.args in
-    two_digits a.line.now (length a.line.now - 1) 0 (formed a.line.now (sym wellformed.ensures ∙ c.if-not-well_formed.false)).all (omega (arith, (formed a.line.now (sym wellformed.ensures ∙ c.if-not-well_formed.false)).two, (formed a.line.now (sym wellformed.ensures ∙ c.if-not-well_formed.false)).odd))
+    two_digits a.line.now (length a.line.now - 1) 0 (formed a.line.now (sym c.well_formed.ensures ∙ c.if-not-well_formed.false)).all (omega (arith, (formed a.line.now (sym c.well_formed.ensures ∙ c.if-not-well_formed.false)).two, (formed a.line.now (sym c.well_formed.ensures ∙ c.if-not-well_formed.false)).odd))
 
 pub returns-then-m-ne8 : goal.returns-then-m-ne8
 returns-then-m-ne8 c =
-    let if1 = c.if-not-well_formed in
-    let wellformed = c.well_formed in
     let a = c.args in
-    read-open_10 a.line.now a.flags.now a.values.now (sym wellformed.ensures ∙ if1.false) (formed a.line.now (sym wellformed.ensures ∙ if1.false)) (sym c.byte_at-kind.ensures ∙ c.if-kind-eq1.true) c.if-m-ne8.true
+    read-open_10 a.line.now a.flags.now a.values.now (sym c.well_formed.ensures ∙ c.if-not-well_formed.false) (formed a.line.now (sym c.well_formed.ensures ∙ c.if-not-well_formed.false)) (sym c.byte_at-kind.ensures ∙ c.if-kind-eq1.true) c.if-m-ne8.true
 
 pub byte_at-high-requires : goal.byte_at-high-requires
 byte_at-high-requires c =
-    let if1 = c.if-not-well_formed in
-    let wellformed = c.well_formed in
     let a = c.args in
-    two_digits a.line.now (length a.line.now - 1) 4 (formed a.line.now (sym wellformed.ensures ∙ if1.false)).all (omega (arith, (formed a.line.now (sym wellformed.ensures ∙ if1.false)).two, (formed a.line.now (sym wellformed.ensures ∙ if1.false)).odd, c.if-m-ne8.false))
+    two_digits a.line.now (length a.line.now - 1) 4 (formed a.line.now (sym c.well_formed.ensures ∙ c.if-not-well_formed.false)).all (omega (arith, (formed a.line.now (sym c.well_formed.ensures ∙ c.if-not-well_formed.false)).two, (formed a.line.now (sym c.well_formed.ensures ∙ c.if-not-well_formed.false)).odd, c.if-m-ne8.false))
 
 pub byte_at-low-requires : goal.byte_at-low-requires
 byte_at-low-requires c =
-    let if1 = c.if-not-well_formed in
-    let wellformed = c.well_formed in
     let a = c.args in
-    two_digits a.line.now (length a.line.now - 1) 6 (formed a.line.now (sym wellformed.ensures ∙ if1.false)).all (omega (arith, (formed a.line.now (sym wellformed.ensures ∙ if1.false)).two, (formed a.line.now (sym wellformed.ensures ∙ if1.false)).odd, c.if-m-ne8.false))
+    two_digits a.line.now (length a.line.now - 1) 6 (formed a.line.now (sym c.well_formed.ensures ∙ c.if-not-well_formed.false)).all (omega (arith, (formed a.line.now (sym c.well_formed.ensures ∙ c.if-not-well_formed.false)).two, (formed a.line.now (sym c.well_formed.ensures ∙ c.if-not-well_formed.false)).odd, c.if-m-ne8.false))
 
 pub byte_at-requires : goal.byte_at-requires
 byte_at-requires c =
-    let if1 = c.if-not-well_formed in
-    let wellformed = c.well_formed in
     let a = c.args in
-    two_digits a.line.now (length a.line.now - 1) 2 (formed a.line.now (sym wellformed.ensures ∙ if1.false)).all (omega (arith, (formed a.line.now (sym wellformed.ensures ∙ if1.false)).two, (formed a.line.now (sym wellformed.ensures ∙ if1.false)).odd, c.if-m-ne8.false))
+    two_digits a.line.now (length a.line.now - 1) 2 (formed a.line.now (sym c.well_formed.ensures ∙ c.if-not-well_formed.false)).all (omega (arith, (formed a.line.now (sym c.well_formed.ensures ∙ c.if-not-well_formed.false)).two, (formed a.line.now (sym c.well_formed.ensures ∙ c.if-not-well_formed.false)).odd, c.if-m-ne8.false))
 
 pub returns-then-kind-eq1 : goal.returns-then-kind-eq1
 returns-then-kind-eq1 c =
-    let if1 = c.if-not-well_formed in
-    let wellformed = c.well_formed in
     let a = c.args in
-    read-open a.line.now a.flags.now a.values.now (sym wellformed.ensures ∙ if1.false) (formed a.line.now (sym wellformed.ensures ∙ if1.false)) (sym c.byte_at-kind.ensures ∙ c.if-kind-eq1.true) c.if-m-ne8.false _ _ _ c.byte_at.ensures c.byte_at-high.ensures c.byte_at-low.ensures
+    read-open a.line.now a.flags.now a.values.now (sym c.well_formed.ensures ∙ c.if-not-well_formed.false) (formed a.line.now (sym c.well_formed.ensures ∙ c.if-not-well_formed.false)) (sym c.byte_at-kind.ensures ∙ c.if-kind-eq1.true) c.if-m-ne8.false _ _ _ c.byte_at.ensures c.byte_at-high.ensures c.byte_at-low.ensures
 
 pub returns-then-m-ne2 : goal.returns-then-m-ne2
 returns-then-m-ne2 c =
-    let if1 = c.if-not-well_formed in
-    let wellformed = c.well_formed in
     let a = c.args in
-    read_uneven a.line.now a.flags.now a.values.now (sym wellformed.ensures ∙ if1.false) (formed a.line.now (sym wellformed.ensures ∙ if1.false)) (sym c.byte_at-kind.ensures ∙ c.if-kind-eq2.true) c.if-m-ne2.true
+    read_uneven a.line.now a.flags.now a.values.now (sym c.well_formed.ensures ∙ c.if-not-well_formed.false) (formed a.line.now (sym c.well_formed.ensures ∙ c.if-not-well_formed.false)) (sym c.byte_at-kind.ensures ∙ c.if-kind-eq2.true) c.if-m-ne2.true
 
 pub returns-then-m-lt6 : goal.returns-then-m-lt6
 returns-then-m-lt6 c =
-    let if1 = c.if-not-well_formed in
-    let wellformed = c.well_formed in
     let a = c.args in
-    read_none a.line.now a.flags.now a.values.now (sym wellformed.ensures ∙ if1.false) (formed a.line.now (sym wellformed.ensures ∙ if1.false)) (sym c.byte_at-kind.ensures ∙ c.if-kind-eq2.true) (omega (arith, c.if-m-lt6.true)) c.if-m-ne2.false
+    read_none a.line.now a.flags.now a.values.now (sym c.well_formed.ensures ∙ c.if-not-well_formed.false) (formed a.line.now (sym c.well_formed.ensures ∙ c.if-not-well_formed.false)) (sym c.byte_at-kind.ensures ∙ c.if-kind-eq2.true) (omega (arith, c.if-m-lt6.true)) c.if-m-ne2.false
 
 pub fill-requires : goal.fill-requires
 fill-requires c = (omega (arith, (formed c.args.line.now (sym c.well_formed.ensures ∙ c.if-not-well_formed.false)).most), omega (arith, (formed c.args.line.now (sym c.well_formed.ensures ∙ c.if-not-well_formed.false)).most), omega (arith, (formed c.args.line.now (sym c.well_formed.ensures ∙ c.if-not-well_formed.false)).most), samples-digits c.args.line.now (formed c.args.line.now (sym c.well_formed.ensures ∙ c.if-not-well_formed.false)) _ c.if-m-ne2.false refl)
 
 pub returns-then-kind-eq2 : goal.returns-then-kind-eq2
 returns-then-kind-eq2 c =
-    let if1 = c.if-not-well_formed in
-    let wellformed = c.well_formed in
     let a = c.args in
-    read-samples a.line.now a.flags.now a.values.now (sym wellformed.ensures ∙ if1.false) (formed a.line.now (sym wellformed.ensures ∙ if1.false)) (sym c.byte_at-kind.ensures ∙ c.if-kind-eq2.true) c.if-m-ne2.false (omega (arith, c.if-m-lt6.false)) _ refl _ _ c.fill.ensures
+    read-samples a.line.now a.flags.now a.values.now (sym c.well_formed.ensures ∙ c.if-not-well_formed.false) (formed a.line.now (sym c.well_formed.ensures ∙ c.if-not-well_formed.false)) (sym c.byte_at-kind.ensures ∙ c.if-kind-eq2.true) c.if-m-ne2.false (omega (arith, c.if-m-lt6.false)) _ refl _ _ c.fill.ensures
 
 pub returns-then-m-ne2-2 : goal.returns-then-m-ne2-2
 returns-then-m-ne2-2 c =
-    let if1 = c.if-not-well_formed in
-    let wellformed = c.well_formed in
     let a = c.args in
-    read-close_10 a.line.now a.flags.now a.values.now (sym wellformed.ensures ∙ if1.false) (formed a.line.now (sym wellformed.ensures ∙ if1.false)) (sym c.byte_at-kind.ensures ∙ c.if-kind-eq3.true) c.if-m-ne2-2.true
+    read-close_10 a.line.now a.flags.now a.values.now (sym c.well_formed.ensures ∙ c.if-not-well_formed.false) (formed a.line.now (sym c.well_formed.ensures ∙ c.if-not-well_formed.false)) (sym c.byte_at-kind.ensures ∙ c.if-kind-eq3.true) c.if-m-ne2-2.true
 
 pub returns-then-kind-eq3 : goal.returns-then-kind-eq3
 returns-then-kind-eq3 c =
-    let if1 = c.if-not-well_formed in
-    let wellformed = c.well_formed in
     let a = c.args in
-    read-close a.line.now a.flags.now a.values.now (sym wellformed.ensures ∙ if1.false) (formed a.line.now (sym wellformed.ensures ∙ if1.false)) (sym c.byte_at-kind.ensures ∙ c.if-kind-eq3.true) c.if-m-ne2-2.false
+    read-close a.line.now a.flags.now a.values.now (sym c.well_formed.ensures ∙ c.if-not-well_formed.false) (formed a.line.now (sym c.well_formed.ensures ∙ c.if-not-well_formed.false)) (sym c.byte_at-kind.ensures ∙ c.if-kind-eq3.true) c.if-m-ne2-2.false
 
 pub returns : goal.returns
 returns c =
-    let byteat = c.byte_at-kind in
-    let if1 = c.if-not-well_formed in
-    let wellformed = c.well_formed in
     let a = c.args in
-    read_other a.line.now a.flags.now a.values.now (sym wellformed.ensures ∙ if1.false) (formed a.line.now (sym wellformed.ensures ∙ if1.false)) (λ e. c.if-kind-eq1.false (byteat.ensures ∙ e)) (λ e. c.if-kind-eq2.false (byteat.ensures ∙ e)) (λ e. c.if-kind-eq3.false (byteat.ensures ∙ e))
+    read_other a.line.now a.flags.now a.values.now (sym c.well_formed.ensures ∙ c.if-not-well_formed.false) (formed a.line.now (sym c.well_formed.ensures ∙ c.if-not-well_formed.false)) (λ e. c.if-kind-eq1.false (c.byte_at-kind.ensures ∙ e)) (λ e. c.if-kind-eq2.false (c.byte_at-kind.ensures ∙ e)) (λ e. c.if-kind-eq3.false (c.byte_at-kind.ensures ∙ e))

@@ -3,4 +3,4 @@ use Rattle.std.proofs.Common.{refl, arith}
 use Rattle.settling.proofs.fresh.Goals as goal
 
 pub returns : goal.returns
-returns c = (refl, omega arith)
+returns c = record { is = refl; below = omega arith }

@@ -1,5 +1,4 @@
 use Rattle.steps.proofs.Rest.{rest_full, rest-stops}
-use borrow.Author.Tests.{not-true, not-false}
 use mathlib.Core.Path.{sym, ◌∙◌}
 use Rattle.steps.proofs.rest_step.Goals as goal
 

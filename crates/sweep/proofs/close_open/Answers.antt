@@ -4,6 +4,5 @@ use Rattle.sweep.proofs.close_open.Goals as goal
 
 pub returns : goal.returns
 returns c =
-    let drain = c.drain-y in
     let a = c.args in
-    close-done a.p a.out.now _ (λ h. omega arith) _ drain.result _ c.progress_of.ensures drain.ensures _ c.closed_after.ensures
+    close-done a.p a.out.now _ (λ h. omega arith) _ c.drain-y.result _ c.progress_of.ensures c.drain-y.ensures _ c.closed_after.ensures

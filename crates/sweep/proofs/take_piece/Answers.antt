@@ -18,6 +18,5 @@ overflow_add-taken c = omega (arith, c.requires)
 
 pub returns : goal.returns
 returns c =
-    let work = c.work-y in
     let a = c.args in
-    take_done a.p (record { flags = a.flags.now; values = a.values.now }) a.out.now c.requires (λ i. omega (arith, c.type_inv.values i)) _ work.result _ _ c.progress_of.ensures work.ensures c.keep.ensures _ (ap (λ (q : Processor). record { answer = Accepted (work.result.at / record_size); processor = q }) c.moved.ensures)
+    take_done a.p (record { flags = a.flags.now; values = a.values.now }) a.out.now c.requires (λ i. omega (arith, c.type_inv.values i)) _ c.work-y.result _ _ c.progress_of.ensures c.work-y.ensures c.keep.ensures _ (ap (λ (q : Processor). record { answer = Accepted (c.work-y.result.at / record_size); processor = q }) c.moved.ensures)

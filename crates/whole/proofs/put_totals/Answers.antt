@@ -25,6 +25,5 @@ shape_of-totals c = c.loop-i.invariant.0.size
 pub returns : goal.returns
 returns c =
     let l = c.loop-i in
-    let totalsbytes = c.totals_bytes-bytes in
     let a = c.args in
-    put-end _ a.totals.now l.totals l.i ((ap length totalsbytes.ensures ∙ totals-size a.t) ∙ omega (arith, l.invariant.1)) (omega (arith, c.requires, l.invariant.1)) l.invariant.0 ∙ ap (λ (l : List ℕ). over l a.totals.now) totalsbytes.ensures
+    put-end _ a.totals.now l.totals l.i ((ap length c.totals_bytes-bytes.ensures ∙ totals-size a.t) ∙ omega (arith, l.invariant.1)) (omega (arith, c.requires, l.invariant.1)) l.invariant.0 ∙ ap (λ (l : List ℕ). over l a.totals.now) c.totals_bytes-bytes.ensures

@@ -1,7 +1,7 @@
 use Prim.Native.Nat.{◌+◌}
 use mathlib.Core.Path.{refl, sym, ◌∙◌}
 use lib.ListN.{length}
-use borrow.Author.Tests.{not-true, not-false, leb-true, leb-false}
+use borrow.Author.Tests.{leb-true, leb-false}
 use Rattle.lines.specs.Batches.{batch_most}
 use Rattle.steps.specs.Post.{piece_of}
 use Rattle.lines.proofs.Batching.{all-refused, all-accepted, all_without, all_with}

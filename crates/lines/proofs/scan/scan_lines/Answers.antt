@@ -14,10 +14,9 @@ shape_of-out-in_default c = omega (arith, c.out-1.given, c.loop-end.invariant.si
 
 pub returns-in_default : goal.returns-in_default
 returns-in_default c =
-    let batch = c.batch-b in
     let l = c.loop-end in
     let a = c.args in
-    scanned_rest a.p a.input.now a.from a.at a.out.now batch.result.processor batch.result.from batch.result.at _ (scanning_batch a.p a.input.now a.from a.at a.out.now l.q l.i l.place l.out l.invariant batch.result _ (omega (arith, c.out-1.given)) batch.ensures) (end-past a.input.now batch.result.from _ c.in_default.is c.line_end-e.ensures)
+    scanned_rest a.p a.input.now a.from a.at a.out.now c.batch-b.result.processor c.batch-b.result.from c.batch-b.result.at _ (scanning_batch a.p a.input.now a.from a.at a.out.now l.q l.i l.place l.out l.invariant c.batch-b.result _ (omega (arith, c.out-1.given)) c.batch-b.ensures) (end-past a.input.now c.batch-b.result.from _ c.in_default.is c.line_end-e.ensures)
 
 pub slice_bounds-line_step-count : goal.slice_bounds-line_step-count
 slice_bounds-line_step-count c = omega (arith, (end-at c.args.input.now c.batch-b.result.from _ _ c.in-At.is c.line_end-e.ensures).some)
@@ -33,27 +32,24 @@ loop-end-smaller c = omega (arith, (end-at c.args.input.now c.batch-b.result.fro
 
 pub loop-end-preserved : goal.loop-end-preserved
 loop-end-preserved c =
-    let batch = c.batch-b in
     let l = c.loop-end in
     let a = c.args in
-    scanning_next a.p a.input.now a.from a.at a.out.now batch.result.processor batch.result.from batch.result.at _ (scanning_batch a.p a.input.now a.from a.at a.out.now l.q l.i l.place l.out l.invariant batch.result _ (omega (arith, c.out-1.given)) batch.ensures) _ (end-at a.input.now batch.result.from _ _ c.in-At.is c.line_end-e.ensures) _ _ c.line_step-s.ensures _ c.in-Goes.is (omega (arith, c.out-in-loop-end-1.given))
+    scanning_next a.p a.input.now a.from a.at a.out.now c.batch-b.result.processor c.batch-b.result.from c.batch-b.result.at _ (scanning_batch a.p a.input.now a.from a.at a.out.now l.q l.i l.place l.out l.invariant c.batch-b.result _ (omega (arith, c.out-1.given)) c.batch-b.ensures) _ (end-at a.input.now c.batch-b.result.from _ _ c.in-At.is c.line_end-e.ensures) _ _ c.line_step-s.ensures _ c.in-Goes.is (omega (arith, c.out-in-loop-end-1.given))
 
 pub shape_of-out-in-Stops : goal.shape_of-out-in-Stops
 shape_of-out-in-Stops c = omega (arith, c.out-in-loop-end-1.given, c.out-1.given, c.loop-end.invariant.size)
 
 pub returns-in-Stops : goal.returns-in-Stops
 returns-in-Stops c =
-    let batch = c.batch-b in
     let l = c.loop-end in
     let a = c.args in
-    scanned_stop a.p a.input.now a.from a.at a.out.now batch.result.processor batch.result.from batch.result.at _ (scanning_batch a.p a.input.now a.from a.at a.out.now l.q l.i l.place l.out l.invariant batch.result _ (omega (arith, c.out-1.given)) batch.ensures) _ (end-at a.input.now batch.result.from _ _ c.in-At.is c.line_end-e.ensures) _ _ c.line_step-s.ensures _ _ c.in-Stops.is
+    scanned_stop a.p a.input.now a.from a.at a.out.now c.batch-b.result.processor c.batch-b.result.from c.batch-b.result.at _ (scanning_batch a.p a.input.now a.from a.at a.out.now l.q l.i l.place l.out l.invariant c.batch-b.result _ (omega (arith, c.out-1.given)) c.batch-b.ensures) _ (end-at a.input.now c.batch-b.result.from _ _ c.in-At.is c.line_end-e.ensures) _ _ c.line_step-s.ensures _ _ c.in-Stops.is
 
 pub shape_of-out-in-Full : goal.shape_of-out-in-Full
 shape_of-out-in-Full c = omega (arith, c.out-in-loop-end-1.given, c.out-1.given, c.loop-end.invariant.size)
 
 pub returns-in-Full : goal.returns-in-Full
 returns-in-Full c =
-    let batch = c.batch-b in
     let l = c.loop-end in
     let a = c.args in
-    scanned_full a.p a.input.now a.from a.at a.out.now batch.result.processor batch.result.from batch.result.at _ (scanning_batch a.p a.input.now a.from a.at a.out.now l.q l.i l.place l.out l.invariant batch.result _ (omega (arith, c.out-1.given)) batch.ensures) _ (end-at a.input.now batch.result.from _ _ c.in-At.is c.line_end-e.ensures) _ _ c.line_step-s.ensures c.in-Full.is
+    scanned_full a.p a.input.now a.from a.at a.out.now c.batch-b.result.processor c.batch-b.result.from c.batch-b.result.at _ (scanning_batch a.p a.input.now a.from a.at a.out.now l.q l.i l.place l.out l.invariant c.batch-b.result _ (omega (arith, c.out-1.given)) c.batch-b.ensures) _ (end-at a.input.now c.batch-b.result.from _ _ c.in-At.is c.line_end-e.ensures) _ _ c.line_step-s.ensures c.in-Full.is
