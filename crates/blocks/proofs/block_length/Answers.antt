@@ -7,9 +7,9 @@ use Rattle.blocks.proofs.block_length.Goals as goal
 pub returns-then-n-lt64 : goal.returns-then-n-lt64
 returns-then-n-lt64 c =
     let a = c.args in
-    (sym (ap (λ b. cond b a.n 64) (lt-ltb a.n 64 c.if-n-lt64.true)), (omega (arith, c.if-n-lt64.true), (omega arith, λ h. h)))
+    record { is = sym (ap (λ b. cond b a.n 64) (lt-ltb a.n 64 c.if-n-lt64.true)); most = omega (arith, c.if-n-lt64.true); within = omega arith; some = λ h. h }
 
 pub returns : goal.returns
 returns c =
     let a = c.args in
-    (sym (ap (λ b. cond b a.n 64) (le-ltb a.n 64 c.if-n-lt64.false)), (omega arith, (omega (arith, c.if-n-lt64.false), λ h. omega arith)))
+    record { is = sym (ap (λ b. cond b a.n 64) (le-ltb a.n 64 c.if-n-lt64.false)); most = omega arith; within = omega (arith, c.if-n-lt64.false); some = λ h. omega arith }

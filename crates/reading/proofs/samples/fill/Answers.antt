@@ -21,7 +21,7 @@ pub two_bytes-two-requires : goal.two_bytes-two-requires
 two_bytes-two-requires c =
     let a = c.args in
     let pre = c.requires in
-    four-digits a.line.now c.put_values.new.1.1.0 _ a.n pre.3 c.put_values.ensures c.loop-j.j (omega (arith, pre.0, c.put_values.auto)) (omega arith)
+    four-digits a.line.now c.put_values.new.digits _ a.n pre.3 c.put_values.ensures c.loop-j.j (omega (arith, pre.0, c.put_values.auto)) (omega arith)
 
 pub bounds-flags-j : goal.bounds-flags-j
 bounds-flags-j c = omega (arith, c.requires.1, c.loop-j.invariant.flag_bytes.size)
@@ -37,7 +37,7 @@ loop-j-preserved c =
     let l = c.loop-j in
     let a = c.args in
     let pre = c.requires in
-    filling_next a.line.now a.n pre.3.room a.flags.now a.values.now pre.1 pre.2 l.flags l.values l.j _ _ (omega arith) (low-is-flag a.line.now c.put_values.new.1.1.0 _ a.n pre.3 c.put_values.ensures l.j _ (omega arith) c.two_bytes-two.ensures) (high-is-value a.line.now c.put_values.new.1.1.0 _ a.n pre.3 c.put_values.ensures l.j _ (omega arith) c.two_bytes-two.ensures) l.invariant
+    filling_next a.line.now a.n pre.3.room a.flags.now a.values.now pre.1 pre.2 l.flags l.values l.j _ _ (omega arith) (low-is-flag a.line.now c.put_values.new.digits _ a.n pre.3 c.put_values.ensures l.j _ (omega arith) c.two_bytes-two.ensures) (high-is-value a.line.now c.put_values.new.digits _ a.n pre.3 c.put_values.ensures l.j _ (omega arith) c.two_bytes-two.ensures) l.invariant
 
 pub shape_of-flags : goal.shape_of-flags
 shape_of-flags c = c.loop-j.invariant.flag_bytes.size
