@@ -30,7 +30,7 @@ abbrev pub decreases-loop-t : goal.decreases-loop-t
 decreases-loop-t l = open_count l.places
 
 abbrev pub invariant-loop-done : goal.invariant-loop-done
-invariant-loop-done l = (length l.places ≡ 4) × Feeding (record { l.front = l.initial.front; l.places = l.initial.places; l.counts = l.initial.counts; l.at = l.initial.at }) l.recent l.base l.flags l.values l.initial.out l.out (record { l.front = l.front; l.places = l.places; l.counts = l.counts; l.at = l.at }) l.done
+invariant-loop-done l = (length l.places ≡ 4) × Feeding (record { front = l.initial.front; places = l.initial.places; counts = l.initial.counts; at = l.initial.at }) l.recent l.base l.flags l.values l.initial.out l.out (record { front = l.front; places = l.places; counts = l.counts; at = l.at }) l.done
 
 abbrev pub decreases-loop-done : goal.decreases-loop-done
 decreases-loop-done l = length l.flags - l.done
