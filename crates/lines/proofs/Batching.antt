@@ -232,13 +232,13 @@ samples-said (unread k) h = absurd (omega arith)
 pub record SoFar (input : List ℕ) (from : ℕ) (flags₀ values₀ flags values : List ℕ) (i n : ℕ) : Type 0 where
   pub most : n ≤ 4096
   pub flag-room : length flags ≡ length flags₀
-  pub value_room_lem : length values ≡ length values₀
+  pub values_room : length values ≡ length values₀
   pub all : Gathered input from i (piece_of (take n flags) (take n values))
   pub parts : Parts input from i (take n flags) (take n values)
 
 module _ (input : List ℕ) (from : ℕ) (flags₀ values₀ : List ℕ) where
   pub so_far_start : SoFar input from flags₀ values₀ flags₀ values₀ from 0
-  so_far_start = record { most = omega arith; flag-room = refl; value_room_lem = refl; all = gathered_none input from; parts = laid_none input from }
+  so_far_start = record { most = omega arith; flag-room = refl; values_room = refl; all = gathered_none input from; parts = laid_none input from }
 
   module _ (flags values : List ℕ) (i n : ℕ) (h : SoFar input from flags₀ values₀ flags values i n) where
     pub so_far_end : (r : Gathering) → r.end ≡ i → r.n ≡ n → GatherPost input from r flags values
@@ -280,7 +280,7 @@ module _ (input : List ℕ) (from : ℕ) (flags₀ values₀ : List ℕ) where
           record {
             most = h.most;
             flag-room = p.flag_room ∙ h.flag-room;
-            value_room_lem = p.value_room ∙ h.value_room_lem;
+            values_room = p.value_room ∙ h.values_room;
             all = subst (Gathered input from i) (sym (ap₂ piece_of flags-same values_same)) h.all;
             parts = subst (λ (x : List ℕ). Parts input from i x (take n values')) (sym flags-same) (subst (Parts input from i (take n flags)) (sym values_same) h.parts);
           }
@@ -299,7 +299,7 @@ module _ (input : List ℕ) (from : ℕ) (flags₀ values₀ : List ℕ) where
           record {
             most = omega (arith, short, p.count);
             flag-room = p.flag_room ∙ h.flag-room;
-            value_room_lem = p.value_room ∙ h.value_room_lem;
+            values_room = p.value_room ∙ h.values_room;
             all = subst (Gathered input from to) (sym (ap₂ piece_of p.flag_bytes p.value_bytes))
                 (line-more input from i to (piece_of (take n flags) (take n values)) h.all line read_here refl (reading_sized (part input i to)) (omega (arith, p.count, d)));
             parts = subst (λ (x : List ℕ). Parts input from to x (take (n + k) values')) (sym p.flag_bytes)

@@ -15,7 +15,7 @@ pub loop-i-preserved-then-is_quiet : goal.loop-i-preserved-then-is_quiet
 loop-i-preserved-then-is_quiet c =
     let l = c.loop-i in
     let a = c.args in
-    late_quiet a.p (record { flags = a.flags.now; values = a.values.now }) a.piece a.out.now c.requires.0 l.y l.recent l.auto l.at l.i _ l.out l.invariant c.loop-i-test.true (ap (λ (n : ℕ). l.i + n) c.least.ensures) (all-bytes a.values.now (λ k. omega (arith, c.type_inv.values k))) c.first_place-first.result _ c.first_place-first.ensures c.is_quiet.ensures c.if-is_quiet.true
+    late_quiet a.p (record { flags = a.flags.now; values = a.values.now }) a.piece a.out.now c.requires.0 l.y l.recent l.kept l.at l.i _ l.out l.invariant c.loop-i-test.true (ap (λ (n : ℕ). l.i + n) c.least.ensures) (all-bytes a.values.now (λ k. omega (arith, c.type_inv.values k))) c.first_place-first.result _ c.first_place-first.ensures c.is_quiet.ensures c.if-is_quiet.true
 
 pub keep_part-requires : goal.keep_part-requires
 keep_part-requires c = (c.loop-i.invariant.behind, omega (arith, c.loop-i.invariant.takings.reach, c.requires.0))
@@ -38,7 +38,7 @@ pub loop-i-preserved : goal.loop-i-preserved
 loop-i-preserved c =
     let l = c.loop-i in
     let a = c.args in
-    late_fed a.p (record { flags = a.flags.now; values = a.values.now }) a.piece a.out.now c.requires.0 l.y l.recent l.auto l.at l.i _ l.out l.invariant c.loop-i-test.true (ap (λ (n : ℕ). l.i + n) c.least.ensures) (all-bytes a.values.now (λ k. omega (arith, c.type_inv.values k))) _ _ c.keep_part.ensures c.keep_part-in-loop-i.ensures c.work-y.result _ _ c.work-y.ensures (omega (arith, c.behind-at.ensures, c.out-1.given)) (omega (arith, c.out-1.given))
+    late_fed a.p (record { flags = a.flags.now; values = a.values.now }) a.piece a.out.now c.requires.0 l.y l.recent l.kept l.at l.i _ l.out l.invariant c.loop-i-test.true (ap (λ (n : ℕ). l.i + n) c.least.ensures) (all-bytes a.values.now (λ k. omega (arith, c.type_inv.values k))) _ _ c.keep_part.ensures c.keep_part-in-loop-i.ensures c.work-y.result _ _ c.work-y.ensures (omega (arith, c.behind-at.ensures, c.out-1.given)) (omega (arith, c.out-1.given))
 
 pub keep_part-requires-2 : goal.keep_part-requires-2
 keep_part-requires-2 c = (omega (arith, c.loop-i.invariant.behind, c.loop-i.invariant.takings.reach), omega (arith, c.requires.0))
@@ -50,4 +50,4 @@ pub returns : goal.returns
 returns c =
     let l = c.loop-i in
     let a = c.args in
-    late_end a.p (record { flags = a.flags.now; values = a.values.now }) a.piece a.out.now c.requires.0 l.y l.recent l.auto l.at l.i _ l.out _ _ (omega arith) refl c.keep_part-2.ensures c.arrived.ensures l.invariant
+    late_end a.p (record { flags = a.flags.now; values = a.values.now }) a.piece a.out.now c.requires.0 l.y l.recent l.kept l.at l.i _ l.out _ _ (omega arith) refl c.keep_part-2.ensures c.arrived.ensures l.invariant

@@ -4,4 +4,4 @@ use Rattle.calls.specs.declared.Opened.{Opened}
 use Rattle.whole.proofs.opened.Goals as goal
 
 pub returns : goal.returns
-returns c = ap (λ (x : Opened). x.processor) c.«open».ensures
+returns c = ap (λ (x : Opened). x.processor) c.open-o.ensures

@@ -14,7 +14,7 @@ pub shape_of-flags-in_default : goal.shape_of-flags-in_default
 shape_of-flags-in_default c = c.loop-n.invariant.flag-room
 
 pub shape_of-values-in_default : goal.shape_of-values-in_default
-shape_of-values-in_default c = c.loop-n.invariant.value_room
+shape_of-values-in_default c = c.loop-n.invariant.values_room
 
 pub returns-in_default : goal.returns-in_default
 returns-in_default c =
@@ -32,7 +32,7 @@ pub slice_bounds-add_samples-end : goal.slice_bounds-add_samples-end
 slice_bounds-add_samples-end c = omega (arith, (end-at c.args.input.now c.loop-n.i _ _ c.in-At.is c.line_end-e.ensures).inside)
 
 pub add_samples-k-requires : goal.add_samples-k-requires
-add_samples-k-requires c = (omega (arith, c.requires.0, c.loop-n.invariant.flag-room), omega (arith, c.requires.1, c.loop-n.invariant.value_room))
+add_samples-k-requires c = (omega (arith, c.requires.0, c.loop-n.invariant.flag-room), omega (arith, c.requires.1, c.loop-n.invariant.values_room))
 
 pub shape_of-flags-then-k-eq0 : goal.shape_of-flags-then-k-eq0
 shape_of-flags-then-k-eq0 c =
@@ -44,7 +44,7 @@ pub shape_of-values-then-k-eq0 : goal.shape_of-values-then-k-eq0
 shape_of-values-then-k-eq0 c =
     let l = c.loop-n in
     let a = c.args in
-    (so_far_same a.input.now a.from a.flags.now a.values.now l.flags l.values l.i l.n l.invariant _ _ _ _ c.add_samples-k.ensures c.if-k-eq0.true).value_room
+    (so_far_same a.input.now a.from a.flags.now a.values.now l.flags l.values l.i l.n l.invariant _ _ _ _ c.add_samples-k.ensures c.if-k-eq0.true).values_room
 
 pub returns-then-k-eq0 : goal.returns-then-k-eq0
 returns-then-k-eq0 c =
@@ -68,7 +68,7 @@ pub shape_of-flags : goal.shape_of-flags
 shape_of-flags c = c.loop-n.invariant.flag-room
 
 pub shape_of-values : goal.shape_of-values
-shape_of-values c = c.loop-n.invariant.value_room
+shape_of-values c = c.loop-n.invariant.values_room
 
 pub returns : goal.returns
 returns c =

@@ -46,7 +46,7 @@ slice_bounds-take_all-end-in-loop-i c =
     let a = c.args in
     let pre = c.requires in
     let l = c.loop-i in
-    omega (arith, (going_next_line a.p a.input.now a.from a.to a.at a.flags.now a.values.now a.out.now pre.1 l.q l.i l.a l.place l.out l.invariant (omega arith) _ (end-at a.input.now l.i _ _ c.in-At.is c.line_end-e.ensures)).value-fits)
+    omega (arith, (going_next_line a.p a.input.now a.from a.to a.at a.flags.now a.values.now a.out.now pre.1 l.q l.i l.a l.place l.out l.invariant (omega arith) _ (end-at a.input.now l.i _ _ c.in-At.is c.line_end-e.ensures)).value_fits)
 
 pub take_all-t-requires : goal.take_all-t-requires
 take_all-t-requires c =
