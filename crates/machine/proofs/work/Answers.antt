@@ -210,14 +210,13 @@ loop-k-smaller c =
 pub loop-k-preserved : goal.loop-k-preserved
 loop-k-preserved c =
     let test3 = c.loop-k-test in
-    let loop3 = c.loop-k in
-    (
+    let loop3 = c.loop-k in (
       omega (arith, test3.true),
       elim c.if-v-k.branch [
-          then-v-k w ↦ (subst (λ (m : List Place). Turning c.if-has_bracket.places c.if-has_bracket.on c.lowest-i.result c.edge_at-e.result (loop3.k + 1) m) (sym w.places-is)
-          (turning_heard c.if-has_bracket.places c.if-has_bracket.on c.lowest-i.result c.edge_at-e.result c.agreement_of-v.result c.agreement_of-v.ensures loop3.k loop3.places loop3.invariant.1 test3.true w.if-v-k.true w.heard.result w.heard.ensures))
-          | else-v-k w ↦ (subst (λ (m : List Place). Turning c.if-has_bracket.places c.if-has_bracket.on c.lowest-i.result c.edge_at-e.result (loop3.k + 1) m) (sym w.places-is)
-          (turning_passed c.if-has_bracket.places c.if-has_bracket.on c.lowest-i.result c.edge_at-e.result c.agreement_of-v.result c.agreement_of-v.ensures loop3.k loop3.places loop3.invariant.1 w.if-v-k.false))
+        | then-v-k w ↦ (subst (λ (m : List Place). Turning c.if-has_bracket.places c.if-has_bracket.on c.lowest-i.result c.edge_at-e.result (loop3.k + 1) m) (sym w.places-is)
+            (turning_heard c.if-has_bracket.places c.if-has_bracket.on c.lowest-i.result c.edge_at-e.result c.agreement_of-v.result c.agreement_of-v.ensures loop3.k loop3.places loop3.invariant.1 test3.true w.if-v-k.true w.heard.result w.heard.ensures))
+        | else-v-k w ↦ (subst (λ (m : List Place). Turning c.if-has_bracket.places c.if-has_bracket.on c.lowest-i.result c.edge_at-e.result (loop3.k + 1) m) (sym w.places-is)
+            (turning_passed c.if-has_bracket.places c.if-has_bracket.on c.lowest-i.result c.edge_at-e.result c.agreement_of-v.result c.agreement_of-v.ensures loop3.k loop3.places loop3.invariant.1 w.if-v-k.false))
       ],
     )
 
@@ -246,9 +245,9 @@ loop-todo-preserved c =
     let low : f2.tick.0 < 4294967296 = omega (arith, second-low c.span_of-s.result c.lowest-i.result, c.tick_of-u.ensures.below) in
     let both : TwiceWord c.if-has_bracket.on c.if-has_bracket.both =
     elim c.if-has_bracket.branch [
-      then-has_bracket+else-k-lt4 w ↦ twice_as w.if-opens.on c.if-has_bracket.on w.if-opens.both c.if-has_bracket.both
+      | then-has_bracket+else-k-lt4 w ↦ twice_as w.if-opens.on c.if-has_bracket.on w.if-opens.both c.if-has_bracket.both
           (elim w.if-opens.branch [
-            then-opens v ↦ twice_as v.with_word-on.result w.if-opens.on v.twice-both-then-opens.result w.if-opens.both v.twice-both-then-opens.ensures v.on-is v.both-is
+            | then-opens v ↦ twice_as v.with_word-on.result w.if-opens.on v.twice-both-then-opens.result w.if-opens.both v.twice-both-then-opens.ensures v.on-is v.both-is
             | else-opens v ↦ twice_as loop2.on w.if-opens.on loop2.both w.if-opens.both loop2.invariant.1 v.on-is v.both-is
           ])
           w.on-is w.both-is
@@ -256,23 +255,23 @@ loop-todo-preserved c =
     ] in
     let stood : Stood c.span_of-s.result c.lowest-i.result c.tick_of-u.result.0 args.recent.now args.base args.values.now c.has_bracket.result c.has_bracket.ensures c.block_length-r.result c.edge_at-e.result loop2.places loop2.on loop2.risk loop2.counts loop2.todo loop2.from loop2.invariant.0.todos c.lowest-i.ensures c.if-has_bracket.places c.if-has_bracket.on c.if-has_bracket.risk c.if-has_bracket.counts c.if-has_bracket.todo =
     elim c.if-has_bracket.branch [
-      then-has_bracket+else-k-lt4 w ↦ stood_bracketed c.span_of-s.result c.lowest-i.result c.tick_of-u.result.0 args.recent.now args.base args.values.now c.has_bracket.result c.has_bracket.ensures c.block_length-r.result c.edge_at-e.result loop2.places loop2.on loop2.risk loop2.counts loop2.todo loop2.from loop2.invariant.0.todos c.lowest-i.ensures f2
-    (second_as c.span_of-s.result c.lowest-i.result c.tick_of-u.result.0 args.recent.now args.base args.values.now c.has_bracket.result c.has_bracket.ensures w.if-has_bracket.true f2 refl)
-    c.if-has_bracket.places c.if-has_bracket.on c.if-has_bracket.risk c.if-has_bracket.counts c.if-has_bracket.todo c.top-due.result w.above.result w.wanted-todo-then-has_bracket.result w.if-opens.places w.if-opens.on w.if-opens.risk w.counted-counts.result
-    (elim w.if-opens.branch [
-      then-opens v ↦ bracketed_as loop2.places loop2.on loop2.risk loop2.counts c.lowest-i.result c.edge_at-e.result f2 _ w.if-opens.places v.with_word-on.result w.if-opens.on v.with_word-risk.result w.if-opens.risk w.counted-counts.result
-    (bracketed_opens loop2.places loop2.on loop2.risk loop2.counts c.lowest-i.result c.edge_at-e.result f2 size c.lowest-i.ensures.below low w.firsts_of-f.result w.firsts_of-f.ensures w.is_busy.result w.is_busy.ensures w.outcome_of-y.result
-    (second_outcome c.span_of-s.result c.lowest-i.result c.tick_of-u.result.0 args.recent.now args.base args.values.now w.firsts_of-f.result loop2.on loop2.risk c.edge_at-e.result w.second_tick-w.result.0 w.second_main.result w.is_busy.result w.outcome_of-y.result w.second_tick-w.ensures.is w.second_main.ensures w.outcome_of-y.ensures) w.removed_by-k.result w.removed_by-k.ensures (λ z. omega (arith, w.if-k-lt4.false)) w.counted-counts.result w.counted-counts.ensures w.opens.result w.opens.ensures v.if-opens.true v.opened-reply.result
-    (subst (λ (q : Pulse). OpenedPost w.firsts_of-f.result loop2.on c.lowest-i.result c.edge_at-e.result q v.opened-reply.result) v.second_at-f2.ensures v.opened-reply.ensures) v.free-j.result v.free-j.ensures.is v.free-j.ensures.below v.open_cover.result v.open_phantom.result v.open_cover.ensures v.open_phantom.ensures v.with_word-on.result v.with_word-risk.result v.with_word-on.ensures v.with_word-risk.ensures _ refl) v.places-is v.on-is v.risk-is
-      | else-opens v ↦ bracketed_as loop2.places loop2.on loop2.risk loop2.counts c.lowest-i.result c.edge_at-e.result f2 loop2.places w.if-opens.places loop2.on w.if-opens.on loop2.risk w.if-opens.risk w.counted-counts.result (bracketed_shut loop2.places loop2.on loop2.risk loop2.counts c.lowest-i.result c.edge_at-e.result f2 size c.lowest-i.ensures.below low w.firsts_of-f.result w.firsts_of-f.ensures w.is_busy.result w.is_busy.ensures w.outcome_of-y.result
-    (second_outcome c.span_of-s.result c.lowest-i.result c.tick_of-u.result.0 args.recent.now args.base args.values.now w.firsts_of-f.result loop2.on loop2.risk c.edge_at-e.result w.second_tick-w.result.0 w.second_main.result w.is_busy.result w.outcome_of-y.result w.second_tick-w.ensures.is w.second_main.ensures w.outcome_of-y.ensures) w.removed_by-k.result w.removed_by-k.ensures (λ z. omega (arith, w.if-k-lt4.false)) w.counted-counts.result w.counted-counts.ensures w.opens.result w.opens.ensures v.if-opens.false) v.places-is v.on-is v.risk-is
-    ])
-    c.top-due.ensures w.above.ensures w.wanted-todo-then-has_bracket.ensures w.places-is w.counts-is w.on-is w.risk-is w.todo-is
+      | then-has_bracket+else-k-lt4 w ↦ stood_bracketed c.span_of-s.result c.lowest-i.result c.tick_of-u.result.0 args.recent.now args.base args.values.now c.has_bracket.result c.has_bracket.ensures c.block_length-r.result c.edge_at-e.result loop2.places loop2.on loop2.risk loop2.counts loop2.todo loop2.from loop2.invariant.0.todos c.lowest-i.ensures f2
+          (second_as c.span_of-s.result c.lowest-i.result c.tick_of-u.result.0 args.recent.now args.base args.values.now c.has_bracket.result c.has_bracket.ensures w.if-has_bracket.true f2 refl)
+          c.if-has_bracket.places c.if-has_bracket.on c.if-has_bracket.risk c.if-has_bracket.counts c.if-has_bracket.todo c.top-due.result w.above.result w.wanted-todo-then-has_bracket.result w.if-opens.places w.if-opens.on w.if-opens.risk w.counted-counts.result
+          (elim w.if-opens.branch [
+            | then-opens v ↦ bracketed_as loop2.places loop2.on loop2.risk loop2.counts c.lowest-i.result c.edge_at-e.result f2 _ w.if-opens.places v.with_word-on.result w.if-opens.on v.with_word-risk.result w.if-opens.risk w.counted-counts.result
+                (bracketed_opens loop2.places loop2.on loop2.risk loop2.counts c.lowest-i.result c.edge_at-e.result f2 size c.lowest-i.ensures.below low w.firsts_of-f.result w.firsts_of-f.ensures w.is_busy.result w.is_busy.ensures w.outcome_of-y.result
+                (second_outcome c.span_of-s.result c.lowest-i.result c.tick_of-u.result.0 args.recent.now args.base args.values.now w.firsts_of-f.result loop2.on loop2.risk c.edge_at-e.result w.second_tick-w.result.0 w.second_main.result w.is_busy.result w.outcome_of-y.result w.second_tick-w.ensures.is w.second_main.ensures w.outcome_of-y.ensures) w.removed_by-k.result w.removed_by-k.ensures (λ z. omega (arith, w.if-k-lt4.false)) w.counted-counts.result w.counted-counts.ensures w.opens.result w.opens.ensures v.if-opens.true v.opened-reply.result
+                (subst (λ (q : Pulse). OpenedPost w.firsts_of-f.result loop2.on c.lowest-i.result c.edge_at-e.result q v.opened-reply.result) v.second_at-f2.ensures v.opened-reply.ensures) v.free-j.result v.free-j.ensures.is v.free-j.ensures.below v.open_cover.result v.open_phantom.result v.open_cover.ensures v.open_phantom.ensures v.with_word-on.result v.with_word-risk.result v.with_word-on.ensures v.with_word-risk.ensures _ refl) v.places-is v.on-is v.risk-is
+            | else-opens v ↦ bracketed_as loop2.places loop2.on loop2.risk loop2.counts c.lowest-i.result c.edge_at-e.result f2 loop2.places w.if-opens.places loop2.on w.if-opens.on loop2.risk w.if-opens.risk w.counted-counts.result (bracketed_shut loop2.places loop2.on loop2.risk loop2.counts c.lowest-i.result c.edge_at-e.result f2 size c.lowest-i.ensures.below low w.firsts_of-f.result w.firsts_of-f.ensures w.is_busy.result w.is_busy.ensures w.outcome_of-y.result
+                (second_outcome c.span_of-s.result c.lowest-i.result c.tick_of-u.result.0 args.recent.now args.base args.values.now w.firsts_of-f.result loop2.on loop2.risk c.edge_at-e.result w.second_tick-w.result.0 w.second_main.result w.is_busy.result w.outcome_of-y.result w.second_tick-w.ensures.is w.second_main.ensures w.outcome_of-y.ensures) w.removed_by-k.result w.removed_by-k.ensures (λ z. omega (arith, w.if-k-lt4.false)) w.counted-counts.result w.counted-counts.ensures w.opens.result w.opens.ensures v.if-opens.false) v.places-is v.on-is v.risk-is
+          ])
+          c.top-due.ensures w.above.ensures w.wanted-todo-then-has_bracket.ensures w.places-is w.counts-is w.on-is w.risk-is w.todo-is
       | else-has_bracket w ↦ stood_plain c.span_of-s.result c.lowest-i.result c.tick_of-u.result.0 args.recent.now args.base args.values.now c.has_bracket.result c.has_bracket.ensures c.block_length-r.result c.edge_at-e.result loop2.places loop2.on loop2.risk loop2.counts loop2.todo loop2.from loop2.invariant.0.todos c.lowest-i.ensures w.if-has_bracket.false c.if-has_bracket.places c.if-has_bracket.on c.if-has_bracket.risk c.if-has_bracket.counts c.if-has_bracket.todo w.without_lowest-todo.result w.without_lowest-todo.ensures w.places-is w.counts-is w.on-is w.risk-is w.todo-is
     ] in
     let dealt : Dealt c.if-has_bracket.places c.if-has_bracket.on c.lowest-i.result c.edge_at-e.result c.if-marked.places =
     elim c.if-marked.branch [
-      then-marked+else-loop-k-test w ↦ (subst (λ (m : List Place). Dealt c.if-has_bracket.places c.if-has_bracket.on c.lowest-i.result c.edge_at-e.result m) (sym w.places-is) (deals_four c.if-has_bracket.places w.loop-k.places c.if-has_bracket.on c.lowest-i.result c.edge_at-e.result (stood.size ∙ size) w.loop-k.k (omega (arith, w.loop-k.invariant.0, w.loop-k-test.false)) w.loop-k.invariant.1))
+      | then-marked+else-loop-k-test w ↦ (subst (λ (m : List Place). Dealt c.if-has_bracket.places c.if-has_bracket.on c.lowest-i.result c.edge_at-e.result m) (sym w.places-is) (deals_four c.if-has_bracket.places w.loop-k.places c.if-has_bracket.on c.lowest-i.result c.edge_at-e.result (stood.size ∙ size) w.loop-k.k (omega (arith, w.loop-k.invariant.0, w.loop-k-test.false)) w.loop-k.invariant.1))
       | else-marked+then-marked-2 w ↦ (subst (λ (m : List Place). Dealt c.if-has_bracket.places c.if-has_bracket.on c.lowest-i.result c.edge_at-e.result m) (sym w.places-is) (deals_one c.if-has_bracket.places c.if-has_bracket.on c.lowest-i.result c.edge_at-e.result (stood.size ∙ size) c.if-has_bracket.both w.any_word.result w.which-j.result c.marked.result w.marked-else-marked.result w.speaks.result w.heard-then-marked-2.result both c.marked.ensures w.if-marked.false w.any_word.ensures w.marked-else-marked.ensures w.if-marked-2.true w.which-j.ensures.is w.speaks.ensures w.heard-then-marked-2.ensures))
       | else-marked+else-marked-2 w ↦ (subst (λ (m : List Place). Dealt c.if-has_bracket.places c.if-has_bracket.on c.lowest-i.result c.edge_at-e.result m) (sym w.places-is) (deals_none c.if-has_bracket.places c.if-has_bracket.on c.lowest-i.result c.edge_at-e.result (stood.size ∙ size) w.any_word.result w.marked-else-marked.result w.any_word.ensures w.marked-else-marked.ensures w.if-marked-2.false))
     ] in
