@@ -1,5 +1,5 @@
 -- The refusal numbers of each call, and what an accepted one returns.
-use Prim.Native.Nat.{ℕ, zero, suc, ◌+◌, ◌≤◌, ◌<◌}
+use Prim.Native.Nat.{ℕ, suc, ◌+◌, ◌≤◌, ◌<◌}
 use native.Mathlib.Omega.{arith}
 use mathlib.Core.Path.{◌≡◌, refl, sym, ap, ◌∙◌}
 use mathlib.Core.Bool.{Bool, true, false}
@@ -9,8 +9,7 @@ use lib.Dec.{leb}
 use lib.ListN.{length}
 use borrow.Author.Tests.{leb-true, leb-false}
 use Rattle.rules.specs.declared.Opening.{Opening}
-use Rattle.rules.specs.Lists.{any}
-use Rattle.rules.specs.Samples.{Trace, bad}
+use Rattle.rules.specs.Samples.{Trace}
 use Rattle.rules.specs.Calls.{Answer, open_answer}
 use Rattle.processor.specs.declared.Processor.{Processor}
 use Rattle.processor.specs.State.{none, running, processor_of, Made}

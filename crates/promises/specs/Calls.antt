@@ -1,7 +1,6 @@
 -- What is promised of one call: each refusal number of document 01 with the numbers written out, and what an accepted call returns.
 use Rattle.std.specs.Prelude.{ℕ, ◌+◌, ◌-◌, ◌*◌, ◌/◌, ◌^◌, ◌≤◌, ◌<◌, true, false, List, ◌⊎◌, ◌≡◌, length}
 use Rattle.rules.specs.declared.Opening.{Opening}
-use Rattle.rules.specs.declared.Totals.{Totals}
 use Rattle.rules.specs.Settings.{standard}
 use Rattle.rules.specs.Lists.{any}
 use Rattle.rules.specs.Samples.{Trace, nothing, ◌⧺◌, bad}
@@ -11,7 +10,7 @@ use Rattle.rules.specs.Calls.{fresh, rest}
 use Rattle.rules.specs.Buffers.{over}
 use Rattle.frames.specs.Writing.{totals_bytes_lem}
 use Rattle.processor.specs.declared.Processor.{Processor}
-use Rattle.processor.specs.State.{none, running, idle_processor, running_processor, Made}
+use Rattle.processor.specs.State.{idle_processor, running_processor}
 use Rattle.calls.specs.declared.Answer.TheVariants.{Accepted, Refused}
 use Rattle.calls.specs.declared.Opened.{Opened}
 use Rattle.calls.specs.declared.Taken.{Taken}

@@ -18,7 +18,6 @@ use Rattle.rules.specs.Examples.{span, nowhere, short, ticks, pulses, framed, pr
 use Rattle.processor.specs.declared.Processor.{Processor}
 use Rattle.processor.specs.State.{Sweep, none, running, idle_processor, running_processor, Made}
 use Rattle.calls.specs.declared.Answer.TheVariants.{Accepted, Refused}
-use Rattle.calls.specs.declared.Opened.{Opened}
 use Rattle.calls.specs.declared.Taken.{Taken}
 use Rattle.calls.specs.declared.Closed.{Closed}
 use Rattle.calls.specs.Post.{open_of, TakePost, ClosePost}

@@ -1,5 +1,5 @@
 -- `take_each` makes one call after the other. The invariant: the list of the calls so far is a chain that took the first i ticks.
-use Prim.Native.Nat.{ℕ, ◌+◌, ◌-◌}
+use Prim.Native.Nat.{ℕ, ◌+◌}
 use native.Mathlib.Omega.{arith}
 use mathlib.Core.Path.{ap}
 use Rattle.calls.specs.declared.Opened.{Opened}

@@ -4,7 +4,7 @@ use Rattle.rules.specs.Buffers.{over}
 use mathlib.Core.Path.{refl, ap, ◌∙◌}
 use mathlib.Core.List.{List}
 use lib.ListN.{length}
-use Prim.Native.Nat.{ℕ, ◌-◌}
+use Prim.Native.Nat.{ℕ}
 use native.Mathlib.Omega.{arith}
 use Rattle.whole.proofs.put_totals.Goals as goal
 

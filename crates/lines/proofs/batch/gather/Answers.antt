@@ -2,7 +2,6 @@ use Rattle.lines.proofs.Batching.{so_far_start, so_far_end, so_far_few, so_far_s
 use Rattle.ends.proofs.Newlines.{end-at}
 use native.Mathlib.Omega.{arith}
 use mathlib.Core.Path.{refl}
-use Prim.Native.Nat.{◌-◌}
 use Rattle.lines.proofs.batch.gather.Goals as goal
 
 pub loop-n-init : goal.loop-n-init

@@ -1,6 +1,5 @@
 use Rattle.lines.proofs.Batching.{going_start, going_end, going_next_line, going_stopped, going_on, going_short}
 use Rattle.ends.proofs.Newlines.{end-at}
-use Prim.Native.Nat.{◌-◌}
 use mathlib.Core.Path.{refl}
 use native.Mathlib.Omega.{arith}
 use Rattle.lines.proofs.batch.take_lines.Goals as goal

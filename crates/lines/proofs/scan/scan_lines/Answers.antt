@@ -1,6 +1,5 @@
 use Rattle.lines.proofs.Scanning.{scanning_start, scanning_batch, scanned_rest, scanning_next, scanned_stop, scanned_full}
 use Rattle.ends.proofs.Newlines.{end-at, end-past}
-use Prim.Native.Nat.{◌-◌}
 use native.Mathlib.Omega.{arith}
 use Rattle.lines.proofs.scan.scan_lines.Goals as goal
 
