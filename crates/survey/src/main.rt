@@ -41,12 +41,7 @@ fn unread(rt: &impl Eprint, error: &io::Error) -> Came {
 }
 
 // Reads once, behind the bytes kept.
-fn read_more(
-    rt: &impl Eprint,
-    source: &mut impl io::Read,
-    input: &mut [u8],
-    kept: usize,
-) -> Read
+fn read_more(rt: &impl Eprint, source: &mut impl io::Read, input: &mut [u8], kept: usize) -> Read
     requires { kept ≤ length input.old }
     ensures { ReadPost kept input.old result input.new }
 {
@@ -67,13 +62,7 @@ fn read_more(
 }
 
 // What is left of the input at its end has no newline: it is refused.
-fn last(
-    rt: &(impl Print + Eprint),
-    p: Processor,
-    used: u64,
-    rest: &[u8],
-    output: &mut [u8],
-)
+fn last(rt: &(impl Print + Eprint), p: Processor, used: u64, rest: &[u8], output: &mut [u8])
     requires { LinePast rest.now 0 }
 {
     let n = rest.len();
