@@ -6,10 +6,10 @@ use Rattle.survey.proofs.Reading.{rest-prints}
 use Rattle.survey.proofs.last.Goals as goal
 
 pub slice_bounds-print-end : goal.slice_bounds-print-end
-slice_bounds-print-end g c = (omega (arith, c.rest_step-how.ensures.inside (omega arith), ap (λ (x : Step). place_of x 0) c.in-Stops.is, c.output-1.given))
+slice_bounds-print-end g c = (omega (arith, c.rest_step-how.ensures.inside (omega arith), ap (λ (x : Step). place_of x 0) c.in-Stops.is))
 
 pub slice_bounds-print-end-2 : goal.slice_bounds-print-end-2
-slice_bounds-print-end-2 g c = part_length _ _ (omega (arith, c.rest_step-how.ensures.inside (omega arith), ap (λ (x : Step). place_of x 0) c.in-Stops.is, c.output-1.given))
+slice_bounds-print-end-2 g c = part_length _ _ (omega (arith, c.rest_step-how.ensures.inside (omega arith), ap (λ (x : Step). place_of x 0) c.in-Stops.is))
 
 pub print-requires : goal.print-requires
 print-requires g c =

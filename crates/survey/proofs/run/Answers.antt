@@ -19,7 +19,7 @@ turn-s-requires g c =
 pub loop-turns-preserved : goal.loop-turns-preserved
 loop-turns-preserved g c =
     let inv = c.loop-turns.invariant in
-    (omega (arith, c.input-1.given, inv.0), omega (arith, c.output-1.given, inv.1), c.turn-s.ensures)
+    (omega (arith, inv.0), omega (arith, inv.1), c.turn-s.ensures)
 
 pub shape_of-input : goal.shape_of-input
 shape_of-input g c = c.loop-turns.invariant.0

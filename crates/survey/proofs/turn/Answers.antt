@@ -24,7 +24,7 @@ returns-in-End g c = stands-over _ c.ended.result _ c.ended.ensures
 pub returns-in-Nothing : goal.returns-in-Nothing
 returns-in-Nothing g c =
     let start = c.args in
-    stands_going start.s.course _ _ _ (going_same _ start.s.kept start.input.now c.requires _ c.input-1.given c.read_more-r.ensures.stays)
+    stands_going start.s.course _ _ _ (going_same _ start.s.kept start.input.now c.requires _ (omega arith) c.read_more-r.ensures.stays)
 
 pub returns-in-Failed : goal.returns-in-Failed
 returns-in-Failed g c = stands_failed _ c.ended-in-Failed.result _ c.ended-in-Failed.ensures
