@@ -1,5 +1,5 @@
 -- `put_recent` is safe and ends: the slice keeps its length, and 256 bytes from 248 on lie within it.
-use Rattle.std.proofs.Common.{◌-◌, arith, length, length-set}
+use Rattle.std.proofs.Common.{arith, length-set}
 use Rattle.test_calls.proofs.outcome_bytes.put_recent.Goals as goal
 
 pub loop-i-preserved : goal.loop-i-preserved
