@@ -2,7 +2,7 @@
 use Rattle.std.specs.Prelude.{ℕ, ◌+◌, ◌-◌, ◌*◌, ◌≤◌, ◌<◌, Bool, true, not, ◌&&◌, ◌||◌, cond, List, ◌++◌, ◌≡◌, eqb, leb, ltb, length}
 use Rattle.rules.specs.Settings.{standard}
 use Rattle.rules.specs.Lists.{All}
-use Rattle.rules.specs.Samples.{Trace, ◌⧺◌, P, piece_limit, sweep_limit}
+use Rattle.rules.specs.Samples.{Trace, ◌⧺◌, piece_limit, sweep_limit}
 use Rattle.rules.specs.Edges.{stands, edge_at}
 use Rattle.rules.specs.Replies.{ended}
 use Rattle.rules.specs.Machine.{given, State, after}

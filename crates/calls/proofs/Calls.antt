@@ -1,6 +1,6 @@
 -- Demand 3, for the fold of a list of requests and so for every chain of calls. The sweep goes on by the accepted pieces; what is handed out end to end
 -- is what is due, and with a close every reply. After an accepted close every call is refused with 3.
-use Prim.Native.Nat.{ℕ, ◌+◌, ◌≤◌}
+use Prim.Native.Nat.{ℕ, ◌≤◌}
 use native.Mathlib.Omega.{arith}
 use mathlib.Core.Path.{◌≡◌, refl, sym, ap, ◌∙◌, subst}
 use mathlib.Core.Bool.{true, false}

@@ -1,5 +1,5 @@
 -- What the code computes of a reply is what the rules say: tests by ticks, code and confidence, constants, settling.
-use Rattle.std.proofs.Common.{◌≡◌, ℕ, zero, suc, ◌+◌, ◌-◌, ◌*◌, ◌%◌, ◌^◌, ◌<◌, Bool, true, false, cond, not, ◌&&◌, ◌||◌, eqb, ltb, leb, negsuc, sym, refl, ap, ◌∙◌, arith, le-ltb, lt-ltb, leb-false, leb-true}
+use Rattle.std.proofs.Common.{◌≡◌, ℕ, zero, suc, ◌+◌, ◌*◌, ◌%◌, ◌^◌, ◌<◌, Bool, true, false, cond, not, ◌&&◌, ◌||◌, eqb, ltb, leb, negsuc, sym, refl, ap, ◌∙◌, arith, le-ltb, lt-ltb, leb-false, leb-true}
 use lib.Ieee.{Float, fin, binary64, of_bits}
 use Rattle.rules.specs.declared.Reply.{Reply}
 use Rattle.rules.specs.declared.Word.{Word}

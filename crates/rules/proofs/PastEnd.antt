@@ -11,7 +11,7 @@ use borrow.Author.Tests.{le-leb}
 use Rattle.rules.specs.declared.Reply.{Reply}
 use Rattle.rules.specs.Settings.{Settings, Allowed}
 use Rattle.rules.specs.Lists.{filter, reject}
-use Rattle.rules.specs.Samples.{Trace, ◌⧺◌, A, N, M}
+use Rattle.rules.specs.Samples.{Trace, ◌⧺◌, M}
 use Rattle.rules.specs.Edges.{stands, lead, falls, age, trail_within, goes_on, no_trail_lem, in_run, kind, since, age_at, kind_at, edge_at}
 use Rattle.rules.specs.Replies.{f1}
 use Rattle.rules.specs.Machine.{given, State, retired, after, final}

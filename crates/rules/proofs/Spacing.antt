@@ -1,6 +1,6 @@
 -- Among the replies opened and not removed any 206 consecutive ticks hold at most four F1s: when a fifth opens, an earlier one is over.
 -- So n ticks hand out at most 4 x ceil(n/206) replies, and a close at most eight.
-use Prim.Native.Nat.{ℕ, zero, suc, ◌+◌, ◌-◌, ◌*◌, ◌≤◌, ◌<◌}
+use Prim.Native.Nat.{ℕ, zero, suc, ◌+◌, ◌*◌, ◌≤◌, ◌<◌}
 use native.Mathlib.Omega.{arith}
 use mathlib.Core.Path.{◌≡◌, refl, sym, ap, subst}
 use mathlib.Core.Bool.{Bool, true, false, ◌&&◌, ◌||◌, cond, and-false}

@@ -1,5 +1,5 @@
 -- Lists and tests: what passes a test, and how often.
-use Rattle.std.specs.Prelude.{ℕ, ◌+◌, Bool, false, ◌||◌, cond, List, [], ◌∷◌, ◌++◌, length}
+use Rattle.std.specs.Prelude.{ℕ, Bool, false, ◌||◌, cond, List, [], ◌∷◌, ◌++◌, length}
 
 abbrev pub any {ℓ} : {X : Type ℓ} → (X → Bool) → List X → Bool
 any p [] = false

@@ -1,6 +1,5 @@
 use Rattle.characters.proofs.Digits.{seen_none, seen_next, seen_all}
 use native.Mathlib.Omega.{arith}
-use Prim.Native.Nat.{◌-◌}
 use Rattle.characters.proofs.are_digits.Goals as goal
 
 pub loop-i-init : goal.loop-i-init

@@ -1,6 +1,5 @@
 use Rattle.ends.proofs.Newlines.{noticed_none, noticed_next, noticed_all}
 use native.Mathlib.Omega.{arith}
-use Prim.Native.Nat.{◌-◌}
 use Rattle.ends.proofs.has_newline.Goals as goal
 
 pub loop-k-init : goal.loop-k-init

@@ -1,6 +1,5 @@
 use Rattle.ends.proofs.Newlines.{passed-at, looking_start, found_newline, found-long, looking_next, looking_past}
 use native.Mathlib.Omega.{arith}
-use Prim.Native.Nat.{◌-◌}
 use Rattle.ends.proofs.line_end.Goals as goal
 
 pub overflow_sub-left : goal.overflow_sub-left

@@ -1,7 +1,6 @@
 use Rattle.ends.proofs.Newlines.{passing_start, passing_next, passing_short, passing_found, passing_end}
 use mathlib.Core.Path.{sym, ◌∙◌}
 use native.Mathlib.Omega.{arith}
-use Prim.Native.Nat.{◌-◌}
 use Rattle.ends.proofs.passed.Goals as goal
 
 pub loop-k-init : goal.loop-k-init

@@ -1,5 +1,4 @@
 -- `bad_from` tells whether a byte is bad. The invariant: what is seen of the bytes passed, or a bad one among the others, is a bad one at all.
-use Prim.Native.Nat.{◌-◌}
 use native.Mathlib.Omega.{arith}
 use Rattle.flags.proofs.BadBytes.{seen_first, seen_next, all_seen}
 use Rattle.flags.proofs.bad_from.Goals as goal

@@ -1,5 +1,4 @@
 -- `has_bad` tells whether a byte is bad. The invariant: those before i are good.
-use Prim.Native.Nat.{◌-◌}
 use native.Mathlib.Omega.{arith}
 use Rattle.flags.proofs.BadBlocks.{pass-first, pass-next, pass-found, pass-last}
 use Rattle.flags.proofs.has_bad.Goals as goal

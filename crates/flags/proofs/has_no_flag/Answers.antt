@@ -1,7 +1,5 @@
 -- `has_no_flag` tells whether all bytes are 0. The invariant: those before i are.
-use Prim.Native.Nat.{◌-◌}
 use native.Mathlib.Omega.{arith}
-use borrow.Author.Tests.{not-false, not-true}
 use Rattle.flags.proofs.Flagless.{clear_first, clear_block, clear_byte, clear-last, byte_flagged, block_flagged}
 use Rattle.flags.proofs.has_no_flag.Goals as goal
 

@@ -1,5 +1,4 @@
 use native.Mathlib.Omega.{arith}
-use Prim.Native.Nat.{◌-◌}
 use Rattle.hexadecimal.proofs.Digits.{digits-start, digits-next, digits-end}
 use Rattle.hexadecimal.proofs.put_bytes.Goals as goal
 

@@ -3,7 +3,6 @@ use mathlib.Core.Path.{◌≡◌}
 use lib.ListN.{length}
 use Rattle.marking.specs.Marks.{TwiceWord}
 use Rattle.processor.specs.Arrays.{machine_in}
-use Rattle.blocks.proofs.Blank.{both}
 use Rattle.blocks.proofs.Feeding.{Feeding}
 use Rattle.blocks.proofs.Working.{Working}
 use Rattle.machine.proofs.Dealing.{Turning}

@@ -1,5 +1,4 @@
 use Rattle.masks.proofs.MaskLaws.{open-phantom_law, no_suspect}
-use borrow.Author.Tests.{not-true, not-false}
 use Rattle.masks.proofs.open_phantom.Goals as goal
 
 pub returns-then-not-suspect : goal.returns-then-not-suspect

@@ -1,4 +1,3 @@
-use borrow.Author.Tests.{not-true, not-false}
 use Rattle.masks.proofs.MaskLaws.{no_suspect, phantom-none, phantom_mask_law}
 use native.Mathlib.Omega.{arith}
 use mathlib.Core.Path.{refl}

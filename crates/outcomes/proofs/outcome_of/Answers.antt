@@ -1,7 +1,6 @@
 -- `outcomes::outcome_of` meets its contract.
 use mathlib.Core.Path.{refl}
 use mathlib.Core.Bool.{true, false}
-use borrow.Author.Tests.{not-true, not-false}
 use Rattle.outcomes.proofs.Outcomes.{outcome_side, outcome_removes, outcome_rest}
 use Rattle.outcomes.proofs.outcome_of.Goals as goal
 

@@ -1,5 +1,4 @@
 -- `pack_part` packs a block of 64 bytes, of which the first r are the flags. The invariant: i of them are copied.
-use Prim.Native.Nat.{◌-◌}
 use native.Mathlib.Omega.{arith}
 use mathlib.Core.Path.{◌≡◌, subst}
 use Rattle.packing.proofs.Parts.{Copied, none_copied, one_copied, part-packed}

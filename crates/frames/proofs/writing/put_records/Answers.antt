@@ -1,5 +1,4 @@
 use native.Mathlib.Omega.{arith}
-use Prim.Native.Nat.{◌-◌}
 use mathlib.Core.Path.{refl}
 use Rattle.frames.proofs.Printing.{lines_start, lines_next, lines_end}
 use Rattle.frames.proofs.writing.put_records.Goals as goal

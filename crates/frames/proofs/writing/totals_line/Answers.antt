@@ -7,7 +7,7 @@ use Rattle.frames.proofs.Printing.{write_none, write_all, totals-length}
 use native.Mathlib.Omega.{arith}
 use lib.ListN.{length}
 use mathlib.Core.Path.{sym, ◌∙◌, ap}
-use borrow.Author.Tests.{not-true, not-false, leb-true}
+use borrow.Author.Tests.{leb-true}
 use Rattle.frames.proofs.writing.totals_line.Goals as goal
 
 pub returns-then-not-has_room : goal.returns-then-not-has_room

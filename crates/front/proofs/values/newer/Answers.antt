@@ -1,5 +1,4 @@
 -- `newer` puts the last values of the piece at the end. The invariant: those before i are put.
-use Prim.Native.Nat.{◌-◌}
 use native.Mathlib.Omega.{arith}
 use Rattle.front.proofs.Keeping.{putting_start, putting_next, putting_end}
 use Rattle.front.proofs.values.newer.Goals as goal

@@ -1,5 +1,4 @@
 -- `older` moves the kept values n places to the front, in place. The invariant: those before i are moved, the others are as they were.
-use Prim.Native.Nat.{◌-◌}
 use native.Mathlib.Omega.{arith}
 use mathlib.Core.Path.{refl}
 use Rattle.front.proofs.Keeping.{moving_start, moving_next, moving_end, none-older}

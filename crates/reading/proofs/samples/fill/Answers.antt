@@ -1,6 +1,5 @@
 use Rattle.reading.proofs.Filling.{four-digits, low-is-flag, high-is-value, filling_start, filling_next, filling_end}
 use native.Mathlib.Omega.{arith}
-use Prim.Native.Nat.{◌-◌}
 use Rattle.reading.proofs.samples.fill.Goals as goal
 
 pub overflow_mul-n : goal.overflow_mul-n

@@ -1,6 +1,5 @@
 use Rattle.reading.proofs.Filling.{valued_start, valued_digit, valued_next, valued_end}
 use native.Mathlib.Omega.{arith}
-use Prim.Native.Nat.{◌-◌}
 use Rattle.reading.proofs.samples.put_values.Goals as goal
 
 pub loop-i-init : goal.loop-i-init
