@@ -60,7 +60,7 @@ def carried_out(calls):
 def hold(lines):
     """Holds the lines to the stored ones of the test, counts, and ends the program."""
     if not os.path.isfile(PROGRAM):
-        raise SystemExit(f"{NAME}: there is no {PROGRAM}; 'rt check test_calls' builds it\n0 passed, 1 failed")
+        raise SystemExit(f"{NAME}: there is no {PROGRAM}; 'tools/built test_calls' builds it\n0 passed, 1 failed")
     expected = (ROOT / "tests" / f"{NAME}.txt").read_text().splitlines()
     found = list(lines)
     passed = 0

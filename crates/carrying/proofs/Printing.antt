@@ -7,7 +7,6 @@ use Rattle.lines.specs.declared.scan.Scanned.{Scanned}
 use Rattle.lines.specs.Survey.{lines_in}
 use Rattle.lines.specs.Post.{afterwards, Because, ScanPost}
 use Rattle.lines.proofs.Turns.{read_back}
-use Rattle.carrying.specs.declared.Passed.{Passed}
 use Rattle.carrying.specs.Post.{Prints, PrintPost, PassPost}
 
 -- what was written from the start of the output on stands there

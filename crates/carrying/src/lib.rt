@@ -6,9 +6,10 @@
 ghost use Rattle.std.specs.Prelude.{◌≡◌, ◌+◌, ◌%◌, ◌^◌, ◌≤◌, length, take};
 ghost use Rattle.carrying.specs.Post.{ended_as, Prints, PrintPost, PassPost, CarriedPost, ToStartPost};
 
-use libc::{EINTR, STDERR_FILENO, STDOUT_FILENO};
 use lines::{Scan, Scanned, scan_lines};
 use processor::Processor;
+use std::io;
+use std::io::{ErrorKind, Write};
 
 // A proved loop has to end, and nothing says that an input does. So the loops around calls of the system count down from a number that no
 // run uses up.
@@ -53,21 +54,43 @@ struct Passed {
 
 // ---- output
 
+// What failed and why, as one line on standard error. The reason is the system's text for it, without the number that `io::Error` writes behind it.
+pub fn fail(rt: &impl Eprint, what: &str, error: &io::Error) {
+    let mut bytes = [0u8; 256];
+    let mut writer = io::Cursor::new(bytes.as_mut_slice());
+    let _ = write!(writer, "{error}");
+    let n = writer.position().min(256) as usize;
+    let text = std::str::from_utf8(&bytes[..n]).unwrap_or("");
+    let why = match text.split_once(" (os error ") {
+        Some((words, _)) => words,
+        None => text,
+    };
+    let _ = eprintln!(rt; "{what}: {why}");
+}
+
+// Whether a failed write is no more than a reader that went away. The program ends then, and says nothing.
+pub fn is_unwanted(error: &io::Error) -> bool {
+    error.kind() == ErrorKind::BrokenPipe
+}
+
 // One write. A write that fails is reported, and the answer is false; one that a signal interrupts takes nothing.
-fn is_written(put: isize) -> bool {
-    if put >= 0 {
+fn is_written(rt: &impl Eprint, put: &io::Result<usize>) -> bool {
+    let Err(error) = put else {
+        return true;
+    };
+    if error.kind() == ErrorKind::Interrupted {
         return true;
     }
-    if os::errno() == EINTR {
-        return true;
+    if !is_unwanted(error) {
+        fail(rt, "cannot write", error);
     }
-    os::fail(b"cannot write");
     false
 }
 
 // Writes the bytes, however little each call takes; the answer is false where a write fails. Its caller shows that they are just those of the lines
 // that were carried out, from a processor and a place of the input on: for this alone it is handed what it does not use.
 pub fn print(
+    rt: &(impl Print + Eprint),
     p: Processor,
     input: &[u8],
     from: usize,
@@ -86,23 +109,19 @@ pub fn print(
             return false;
         }
         let rest = &bytes[done..];
-        let put = libc::write(STDOUT_FILENO, rest);
-        if !is_written(put) {
+        let put = rt.write_some(rest);
+        if !is_written(rt, &put) {
             return false;
         }
-        done += io::count(put, rest);
+        done += put.unwrap_or(0);
         turns -= 1;
     }
     true
 }
 
 // Says which refusal stopped the survey, and after how many bytes of input.
-pub fn report(number: u8, used: u64) {
-    io::write_all(STDERR_FILENO, b"refusal ");
-    io::print_decimal(STDERR_FILENO, number as u64);
-    io::write_all(STDERR_FILENO, b" at byte ");
-    io::print_decimal(STDERR_FILENO, used);
-    io::write_all(STDERR_FILENO, b"\n");
+pub fn report(rt: &impl Eprint, number: u8, used: u64) {
+    let _ = eprintln!(rt; "refusal {number} at byte {used}");
 }
 
 // ---- input
@@ -111,7 +130,7 @@ pub fn report(number: u8, used: u64) {
 pub fn more(used: u64, n: usize) -> u64
     ensures { result ≡ (used + n) % 2 ^ 64 }
 {
-    std::num::wrapping_add_u64(used, n as u64)
+    used.wrapping_add(n as u64)
 }
 
 // Moves the bytes from a place to before another to the start of the buffer, and answers how many they are.
@@ -130,7 +149,13 @@ fn to_start(input: &mut [u8], from: usize, to: usize) -> usize
 }
 
 // Carries out lines from a place on until they end or the output is full, and prints what they give.
-fn pass(p: Processor, input: &[u8], from: usize, output: &mut [u8]) -> Passed
+fn pass(
+    rt: &(impl Print + Eprint),
+    p: Processor,
+    input: &[u8],
+    from: usize,
+    output: &mut [u8],
+) -> Passed
     requires { from ≤ length input.now }
     ensures { PassPost p input.now from result }
 {
@@ -138,7 +163,7 @@ fn pass(p: Processor, input: &[u8], from: usize, output: &mut [u8]) -> Passed
     let how = r.scan;
     let at = r.at;
     let q = r.processor;
-    let written = print(p, input, from, false, r, &output[..at]);
+    let written = print(rt, p, input, from, false, r, &output[..at]);
     Passed {
         scan: how,
         processor: q,
@@ -148,7 +173,13 @@ fn pass(p: Processor, input: &[u8], from: usize, output: &mut [u8]) -> Passed
 }
 
 // Carries out the whole lines of the first n bytes of the input. What is left moves to the start of the buffer.
-pub fn carried(s: Survey, input: &mut [u8], n: usize, output: &mut [u8]) -> Survey
+pub fn carried(
+    rt: &(impl Print + Eprint),
+    s: Survey,
+    input: &mut [u8],
+    n: usize,
+    output: &mut [u8],
+) -> Survey
     requires { n ≤ length input.old }
     ensures { CarriedPost s.processor (take n input.old) result input.new }
 {
@@ -156,7 +187,7 @@ pub fn carried(s: Survey, input: &mut [u8], n: usize, output: &mut [u8]) -> Surv
     let mut from: usize = 0;
     let mut turns = TURNS;
     while turns > 0 {
-        let r = pass(p, &input[..n], from, output);
+        let r = pass(rt, p, &input[..n], from, output);
         p = r.processor;
         from = r.from;
         if !r.written {
@@ -177,7 +208,7 @@ pub fn carried(s: Survey, input: &mut [u8], n: usize, output: &mut [u8]) -> Surv
                 turns -= 1;
             }
             Scan::Stopped(number) => {
-                report(number, more(s.used, from));
+                report(rt, number, more(s.used, from));
                 return ended(Course::Over, p);
             }
         }

@@ -5,7 +5,6 @@ use Rattle.processor.specs.State.{Sweep, Made}
 use Rattle.ends.specs.Ends.{LinePast}
 use Rattle.carrying.specs.declared.Course.{Course}
 use Rattle.carrying.specs.declared.Course.TheVariants.{Goes, Over, Failed}
-use Rattle.survey.specs.declared.Came.{Came}
 use Rattle.survey.specs.declared.Came.TheVariants.{End}
 use Rattle.survey.specs.declared.Read.{Read}
 

@@ -8,10 +8,11 @@ ghost use Rattle.std.specs.Prelude.{◌≤◌, length};
 ghost use Rattle.ends.specs.Ends.{LinePast};
 ghost use Rattle.survey.specs.Post.{Going, Stands, ReadPost};
 
-use carrying::{Course, Survey, TURNS, carried, ended, more, print, report};
-use libc::{EINTR, STDIN_FILENO};
+use carrying::{Course, Survey, TURNS, carried, ended, fail, more, print, report};
 use lines::{Scan, Scanned};
 use processor::{Processor, idle};
+use std::io;
+use std::io::ErrorKind;
 use steps::{Step, rest_step};
 
 // A read gave bytes more, or nothing as a signal interrupted it; or the input is at its end; or the read failed.
@@ -31,40 +32,37 @@ struct Read {
 }
 
 // Why a read gave nothing. A failure is reported.
-fn unread() -> Came {
-    if os::errno() == EINTR {
+fn unread(rt: &impl Eprint, error: &io::Error) -> Came {
+    if error.kind() == ErrorKind::Interrupted {
         return Came::Nothing;
     }
-    os::fail(b"cannot read");
+    fail(rt, "cannot read", error);
     Came::Failed
 }
 
 // Reads once, behind the bytes kept.
-fn read_more(input: &mut [u8], kept: usize) -> Read
+fn read_more(rt: &impl Eprint, source: &mut impl io::Read, input: &mut [u8], kept: usize) -> Read
     requires { kept ≤ length input.old }
     ensures { ReadPost kept input.old result input.new }
 {
-    let got = libc::read(STDIN_FILENO, &mut input[kept..]);
-    if got < 0 {
-        return Read {
-            came: unread(),
+    match source.read(&mut input[kept..]) {
+        Err(error) => Read {
+            came: unread(rt, &error),
             n: kept,
-        };
-    }
-    if got == 0 {
-        return Read {
+        },
+        Ok(0) => Read {
             came: Came::End,
             n: kept,
-        };
-    }
-    Read {
-        came: Came::More,
-        n: kept + io::count(got, &input[kept..]),
+        },
+        Ok(got) => Read {
+            came: Came::More,
+            n: kept + got,
+        },
     }
 }
 
 // What is left of the input at its end has no newline: it is refused.
-fn last(p: Processor, used: u64, rest: &[u8], output: &mut [u8])
+fn last(rt: &(impl Print + Eprint), p: Processor, used: u64, rest: &[u8], output: &mut [u8])
     requires { LinePast rest.now 0 }
 {
     let n = rest.len();
@@ -81,23 +79,29 @@ fn last(p: Processor, used: u64, rest: &[u8], output: &mut [u8])
         from: n,
         at,
     };
-    if print(p, rest, 0, true, r, &output[..at]) {
-        report(number, more(used, n));
+    if print(rt, p, rest, 0, true, r, &output[..at]) {
+        report(rt, number, more(used, n));
     }
 }
 
 // Carries out what a read gave.
-fn turn(s: Survey, input: &mut [u8], output: &mut [u8]) -> Survey
+fn turn(
+    rt: &(impl Print + Eprint),
+    source: &mut impl io::Read,
+    s: Survey,
+    input: &mut [u8],
+    output: &mut [u8],
+) -> Survey
     requires { Going s.processor s.kept input.old }
     ensures { Stands result.course result.processor result.kept input.new }
 {
-    let r = read_more(input, s.kept);
+    let r = read_more(rt, source, input, s.kept);
     let came = r.came;
     let n = r.n;
     match came {
-        Came::More => carried(s, input, n, output),
+        Came::More => carried(rt, s, input, n, output),
         Came::End => {
-            last(s.processor, s.used, &input[..n], output);
+            last(rt, s.processor, s.used, &input[..n], output);
             ended(Course::Over, s.processor)
         }
         Came::Nothing => s,
@@ -105,7 +109,12 @@ fn turn(s: Survey, input: &mut [u8], output: &mut [u8]) -> Survey
     }
 }
 
-fn run(input: &mut [u8], output: &mut [u8]) {
+fn run(
+    rt: &(impl Print + Eprint),
+    source: &mut impl io::Read,
+    input: &mut [u8],
+    output: &mut [u8],
+) {
     let mut s = Survey {
         course: Course::Goes,
         processor: idle(),
@@ -118,13 +127,13 @@ fn run(input: &mut [u8], output: &mut [u8]) {
         let Course::Goes = course else {
             return;
         };
-        s = turn(s, input, output);
+        s = turn(rt, source, s, input, output);
         turns -= 1;
     }
 }
 
-fn main() {
-    let mut input = io::large_buffer();
-    let mut output = io::large_buffer();
-    run(&mut input, &mut output);
+fn main(rt: HostRuntime) {
+    let mut input = [0u8; 65536];
+    let mut output = [0u8; 65536];
+    run(&rt, &mut rt.stdin(), &mut input, &mut output);
 }

@@ -25,15 +25,16 @@
 // one that there was.
 #![tactic(auto)]
 
-mod outcomes;
+mod outcome_bytes;
 
 ghost use Rattle.std.specs.Prelude.{◌≤◌, length};
 
 use calls::{Answer, Closed, Taken};
-use libc::{STDERR_FILENO, STDIN_FILENO, STDOUT_FILENO};
-use outcomes::{put_answer, put_processor, put_totals};
+use outcome_bytes::{put_answer, put_processor, put_totals};
 use processor::Processor;
 use rules::{Opening, Totals};
+use std::io;
+use std::io::ErrorKind;
 
 // Samples in a recording.
 const RECORDED: usize = 8192;
@@ -70,9 +71,8 @@ struct Step {
 // ---- reading, and ending
 
 // Reads all of the bytes, or says that the input ended before.
-fn read_whole(bytes: &mut [u8]) -> bool {
-    let n = bytes.len();
-    io::read_full(STDIN_FILENO, bytes) == n
+fn read_whole(source: &mut impl io::Read, bytes: &mut [u8]) -> bool {
+    source.read_exact(bytes).is_ok()
 }
 
 fn stop(p: Processor) -> Step {
@@ -83,14 +83,12 @@ fn stop(p: Processor) -> Step {
 }
 
 // Why nothing more is carried out, on standard error.
-fn complain(why: &[u8]) {
-    io::write_all(STDERR_FILENO, b"calls: ");
-    io::write_all(STDERR_FILENO, why);
-    io::write_all(STDERR_FILENO, b"\n");
+fn complain(rt: &impl Eprint, why: &str) {
+    let _ = eprintln!(rt; "calls: {why}");
 }
 
-fn give_up(p: Processor, why: &[u8]) -> Step {
-    complain(why);
+fn give_up(rt: &impl Eprint, p: Processor, why: &str) -> Step {
+    complain(rt, why);
     stop(p)
 }
 
@@ -116,19 +114,24 @@ fn put_shown(out: &mut [u8], shown: u8, p: Processor)
     }
 }
 
-// Whether the first bytes of an outcome, `lent` bytes of the buffer among them, could be written.
-fn is_told(out: &[u8], lent: usize) -> bool
+// Whether the first bytes of an outcome, `lent` bytes of the buffer among them, could be written. Of a reader that went away nothing is said.
+fn is_told(rt: &(impl Print + Eprint), out: &[u8], lent: usize) -> bool
     requires { (lent ≤ 2048) × (3016 ≤ length out.now) }
 {
-    if io::write_all(STDOUT_FILENO, &out[0..TOLD + lent]) {
-        return true;
+    match rt.write_all(&out[0..TOLD + lent]) {
+        Ok(()) => true,
+        Err(error) => {
+            if error.kind() != ErrorKind::BrokenPipe {
+                complain(rt, "an outcome cannot be written");
+            }
+            false
+        }
     }
-    complain(b"an outcome cannot be written");
-    false
 }
 
 // Writes the outcome of a call, `lent` bytes of the buffer among it.
 fn tell(
+    rt: &(impl Print + Eprint),
     shown: u8,
     answer: Answer,
     totals: Totals,
@@ -142,7 +145,7 @@ fn tell(
     put_totals(out, totals);
     put_shown(out, shown, after);
     Step {
-        going: is_told(out, lent),
+        going: is_told(rt, out, lent),
         processor: after,
     }
 }
@@ -158,9 +161,9 @@ fn after_opening(before: Processor, answer: Answer, s: Step) -> Step {
     }
 }
 
-fn make_open(p: Processor, c: Call) -> Step {
+fn make_open(rt: &(impl Print + Eprint), p: Processor, c: Call) -> Step {
     if c.lent != 0 {
-        return give_up(p, b"an open is lent no buffer");
+        return give_up(rt, p, "an open is lent no buffer");
     }
     let mut out = [c.fill; OUTCOME];
     let o = sweep::open(Opening {
@@ -168,7 +171,7 @@ fn make_open(p: Processor, c: Call) -> Step {
         azimuth: c.azimuth,
     });
     let answer = o.answer;
-    let s = tell(c.shown, answer, no_totals(), o.processor, &mut out, 0);
+    let s = tell(rt, c.shown, answer, no_totals(), o.processor, &mut out, 0);
     after_opening(p, answer, s)
 }
 
@@ -179,45 +182,64 @@ fn take_in(p: Processor, flags: &[u8], values: &[u8], out: &mut [u8], lent: usiz
     sweep::take(p, flags, values, &mut out[TOLD..TOLD + lent])
 }
 
-fn take_piece(p: Processor, c: Call, flags: &[u8], values: &[u8]) -> Step {
+fn take_piece(
+    rt: &(impl Print + Eprint),
+    p: Processor,
+    c: Call,
+    flags: &[u8],
+    values: &[u8],
+) -> Step {
     let lent = c.lent as usize;
     if 2048 < lent {
-        return give_up(p, b"a lent buffer is over 2048 bytes");
+        return give_up(rt, p, "a lent buffer is over 2048 bytes");
     }
     let mut out = [c.fill; OUTCOME];
     let t = take_in(p, flags, values, &mut out, lent);
     let answer = t.answer;
-    tell(c.shown, answer, no_totals(), t.processor, &mut out, lent)
+    tell(
+        rt,
+        c.shown,
+        answer,
+        no_totals(),
+        t.processor,
+        &mut out,
+        lent,
+    )
 }
 
 // The samples a to b of a recording are read, all of them.
-fn record(samples: &mut [u8], a: usize, b: usize) -> bool
+fn record(source: &mut impl io::Read, samples: &mut [u8], a: usize, b: usize) -> bool
     requires { (a ≤ b) × (b ≤ length samples.old) }
 {
-    read_whole(&mut samples[a..b])
+    read_whole(source, &mut samples[a..b])
 }
 
 // The samples go into the middle of two recordings, and the piece is a part of each.
-fn make_take(p: Processor, c: Call) -> Step {
+fn make_take(
+    rt: &(impl Print + Eprint),
+    source: &mut impl io::Read,
+    p: Processor,
+    c: Call,
+) -> Step {
     let a = c.flags_start as usize;
     let b = a + c.flags as usize;
     let d = c.values_start as usize;
     let e = d + c.values as usize;
     if RECORDED < b {
-        return give_up(p, b"flags reach beyond their recording");
+        return give_up(rt, p, "flags reach beyond their recording");
     }
     if RECORDED < e {
-        return give_up(p, b"values reach beyond their recording");
+        return give_up(rt, p, "values reach beyond their recording");
     }
     let mut flags = [c.around; RECORDED];
     let mut values = [c.around; RECORDED];
-    if !record(&mut flags, a, b) {
-        return give_up(p, b"the input ends within flags");
+    if !record(source, &mut flags, a, b) {
+        return give_up(rt, p, "the input ends within flags");
     }
-    if !record(&mut values, d, e) {
-        return give_up(p, b"the input ends within values");
+    if !record(source, &mut values, d, e) {
+        return give_up(rt, p, "the input ends within values");
     }
-    take_piece(p, c, &flags[a..b], &values[d..e])
+    take_piece(rt, p, c, &flags[a..b], &values[d..e])
 }
 
 // A close that is lent the `lent` bytes behind what is told.
@@ -227,15 +249,15 @@ fn close_in(p: Processor, out: &mut [u8], lent: usize) -> Closed
     sweep::close(p, &mut out[TOLD..TOLD + lent])
 }
 
-fn make_close(p: Processor, c: Call) -> Step {
+fn make_close(rt: &(impl Print + Eprint), p: Processor, c: Call) -> Step {
     let lent = c.lent as usize;
     if 2048 < lent {
-        return give_up(p, b"a lent buffer is over 2048 bytes");
+        return give_up(rt, p, "a lent buffer is over 2048 bytes");
     }
     let mut out = [c.fill; OUTCOME];
     let t = close_in(p, &mut out, lent);
     let answer = t.answer;
-    tell(c.shown, answer, t.totals, t.processor, &mut out, lent)
+    tell(rt, c.shown, answer, t.totals, t.processor, &mut out, lent)
 }
 
 // ---- reading a call
@@ -267,49 +289,55 @@ fn call_of(b: &[u8; 17]) -> Call {
 }
 
 // Whether a call is one that can be carried out; says why not.
-fn is_call(c: Call) -> bool {
+fn is_call(rt: &impl Eprint, c: Call) -> bool {
     if 1 < c.shown {
-        complain(b"a processor is shown or not, by 1 or 0");
+        complain(rt, "a processor is shown or not, by 1 or 0");
         return false;
     }
     if (c.kind != 2) & ((c.flags != 0) | (c.values != 0)) {
-        complain(b"samples belong to a take");
+        complain(rt, "samples belong to a take");
         return false;
     }
     if 3 < c.kind {
-        complain(b"an unknown kind of call");
+        complain(rt, "an unknown kind of call");
         return false;
     }
     true
 }
 
-fn make_call(p: Processor, c: Call) -> Step {
-    if !is_call(c) {
+fn make_call(
+    rt: &(impl Print + Eprint),
+    source: &mut impl io::Read,
+    p: Processor,
+    c: Call,
+) -> Step {
+    if !is_call(rt, c) {
         return stop(p);
     }
     let kind = c.kind;
     match kind {
-        1 => make_open(p, c),
-        2 => make_take(p, c),
-        3 => make_close(p, c),
+        1 => make_open(rt, p, c),
+        2 => make_take(rt, source, p, c),
+        3 => make_close(rt, p, c),
         _ => stop(p),
     }
 }
 
-fn next_call(p: Processor) -> Step {
+fn next_call(rt: &(impl Print + Eprint), source: &mut impl io::Read, p: Processor) -> Step {
     let mut bytes = [0u8; 17];
-    if !read_whole(&mut bytes) {
-        return give_up(p, b"the input ends without its end");
+    if !read_whole(source, &mut bytes) {
+        return give_up(rt, p, "the input ends without its end");
     }
-    make_call(p, call_of(&bytes))
+    make_call(rt, source, p, call_of(&bytes))
 }
 
 // Nothing says that the input ends, so the loop counts down from a number that no run uses up.
-fn main() {
+fn main(rt: HostRuntime) {
+    let mut source = rt.stdin();
     let mut p = processor::idle();
     let mut turns = u64::MAX;
     while 0 < turns {
-        let s = next_call(p);
+        let s = next_call(&rt, &mut source, p);
         if !s.going {
             return;
         }

@@ -3,7 +3,7 @@ use Rattle.carrying.proofs.Carrying.{Carrying}
 use Rattle.carrying.proofs.carried.Given as goal
 
 abbrev pub invariant-loop-turns : goal.invariant-loop-turns
-invariant-loop-turns l = (l.input ≡ l.initial.input) × (length l.output ≡ length l.initial.output) × Carrying l.s.processor (take l.n l.input) l.p l.from
+invariant-loop-turns g l = (l.input ≡ l.initial.input) × (length l.output ≡ length l.initial.output) × Carrying l.s.processor (take l.n l.input) l.p l.from
 
 abbrev pub decreases-loop-turns : goal.decreases-loop-turns
-decreases-loop-turns l = l.turns
+decreases-loop-turns g l = l.turns

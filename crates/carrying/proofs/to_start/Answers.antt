@@ -1,5 +1,5 @@
 use Rattle.carrying.proofs.Keeping.{moving_start, moving_next, moving_end}
-use Rattle.std.proofs.Common.{◌-◌, arith}
+use Rattle.std.proofs.Common.{arith}
 use Rattle.carrying.proofs.to_start.Goals as goal
 
 pub loop-k-init : goal.loop-k-init

@@ -15,7 +15,7 @@ crates/test_calls carries out: answers, totals, lent buffers with their tails, a
   compare-calls --store DIR
       Write the files stdin and stdout of the program's own run into DIR.
 
-PATH is target/bin/test_calls in the repository if it is not given; 'rt check test_calls' builds it.
+PATH is target/bin/test_calls in the repository if it is not given; 'tools/built test_calls' builds it.
 The last line is 'N passed, M failed': lists, and things that a run of 100000 calls must meet.
 Exit status: 0 nothing failed, 1 something did, 2 wrong usage.
 ";

@@ -50,7 +50,7 @@ impl Program {
         let name = path.display();
         if !path.is_file() {
             return Err(format!(
-                "there is no {name}; 'rt check test_calls' builds target/bin/test_calls"
+                "there is no {name}; 'tools/built test_calls' builds target/bin/test_calls"
             ));
         }
         let mut child = Command::new(path)

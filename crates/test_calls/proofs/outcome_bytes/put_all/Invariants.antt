@@ -1,8 +1,6 @@
 -- `put_all` is safe and ends: the slice keeps its length, and eight bytes for each number lie within it.
-use Prim.Native.Nat.{◌≤◌, ◌-◌}
-use mathlib.Core.Path.{◌≡◌}
-use lib.ListN.{length}
-use Rattle.test_calls.proofs.outcomes.put_all.Given as goal
+use Rattle.std.proofs.Common.{◌≤◌, ◌-◌, ◌≡◌, length}
+use Rattle.test_calls.proofs.outcome_bytes.put_all.Given as goal
 
 abbrev pub invariant-loop-i : goal.invariant-loop-i
 invariant-loop-i l = (l.i ≤ length l.numbers) × (length l.out ≡ length l.initial.out)

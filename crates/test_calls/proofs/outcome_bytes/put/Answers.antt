@@ -1,7 +1,6 @@
 -- `put` is safe and ends: the slice keeps its length, and the eight bytes lie within it.
-use native.Mathlib.Omega.{arith}
-use lib.ListN.{length, length-set}
-use Rattle.test_calls.proofs.outcomes.put.Goals as goal
+use Rattle.std.proofs.Common.{arith, length-set}
+use Rattle.test_calls.proofs.outcome_bytes.put.Goals as goal
 
 pub loop-i-preserved : goal.loop-i-preserved
 loop-i-preserved c = simp length-set (omega arith)
