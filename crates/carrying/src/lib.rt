@@ -69,7 +69,7 @@ pub fn fail(rt: &impl Eprint, what: &str, error: &io::Error) {
 }
 
 // Whether a failed write is no more than a reader that went away. The program ends then, and says nothing.
-pub fn is_unwanted(error: &io::Error) -> bool {
+fn is_unwanted(error: &io::Error) -> bool {
     error.kind() == ErrorKind::BrokenPipe
 }
 
