@@ -1,5 +1,6 @@
 -- Lines of samples taken as one piece: the sweep takes the piece if and only if it takes the lines, and the replies are the same.
 use Prim.Native.Nat.{ℕ, zero, suc, ◌+◌, ◌-◌, ◌*◌, ◌/◌, ◌≤◌, ◌<◌}
+use Rattle.rules.specs.declared.Refusal.TheVariants.{PieceLength, NoRoom}
 use native.Mathlib.Omega.{arith}
 use mathlib.Core.Path.{◌≡◌, refl, sym, ap, ap₂, ◌∙◌, subst}
 use mathlib.Core.Logic.{◌⊎◌, inl, inr}
@@ -139,7 +140,7 @@ takes-accepted none P room t a p r = absurd (impossible (sym t.is_open))
 takes-accepted (running ω T) P room t a p r =
     let n = length P.flags in
     let m = length T.flags + n in
-    all_skip (not_open true ∷ unequal P ∷ check 5 (ltb piece_limit n) ∷ overlong m ∷ check 7 (ltb room (take_room n)) ∷ bad_flag P.flags ∷ [])
+    all_skip (not_open true ∷ unequal P ∷ check PieceLength (ltb piece_limit n) ∷ overlong m ∷ check NoRoom (ltb room (take_room n)) ∷ bad_flag P.flags ∷ [])
     (refl, (ap not (eq-eqb n (length P.values) a), (le-ltb piece_limit n p, (le-ltb sweep_limit m t.within, (le-ltb room (take_room n) r, (t.good, tt))))))
 
 accepted-takes : (σ : Sweep) (P : Trace) (room : ℕ) → take_answer_at σ P room ≡ accepted → Takes σ P

@@ -1,2 +1,2 @@
+-- Which refusal holds, test by test.
 pub mod Trying
-pub mod Numbers

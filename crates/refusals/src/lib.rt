@@ -1,29 +1,28 @@
-// Which number turns a call down: the first of its list that holds, or 0. A function for each call, of numbers and slices alone.
+// Which refusal turns a call down: the first of its list that holds, if one does. A function for each call, of numbers and slices alone.
 // Asks nothing of its caller.
 #![tactic(auto)]
 
 ghost use Rattle.std.specs.Prelude.{◌≡◌, ltb};
 ghost use Rattle.rules.specs.Samples.{lent};
-ghost use Rattle.rules.specs.Calls.{open_answer, take_answer, close_answer, take_room};
-ghost use Rattle.refusals.specs.Numbers.{answer_numbered};
+ghost use Rattle.rules.specs.Calls.{answered, open_answer, take_answer, close_answer, take_room};
 
 use flags::has_bad;
-use rules::{CLOSE_ROOM, Opening, RECORD};
+use rules::{CLOSE_ROOM, Opening, RECORD, Refusal};
 
 // Open. 1: mode not 1 to 3. 2: azimuth above 16,383.
-pub fn open_refusal(opening: Opening) -> u8
-    ensures { answer_numbered result ≡ open_answer opening }
+pub fn open_refusal(opening: Opening) -> Result<(), Refusal>
+    ensures { answered result ≡ open_answer opening }
 {
     if opening.mode < 1 {
-        return 1;
+        return Err(Refusal::Mode);
     }
     if 3 < opening.mode {
-        return 1;
+        return Err(Refusal::Mode);
     }
     if 16383 < opening.azimuth {
-        return 2;
+        return Err(Refusal::Azimuth);
     }
-    0
+    Ok(())
 }
 
 // The bytes that a reply buffer must have for n ticks: 4 replies in each 206 ticks.
@@ -35,40 +34,40 @@ fn room_for(n: u16) -> usize
 
 // Take, where `taken` ticks were taken, with a reply buffer of `room` bytes. 3: no sweep open. 4: flag and value slices differ in length.
 // 5: piece over 4,096. 6: sweep would pass 32,768. 7: reply buffer under 72 x ceil(n/206) bytes. 8: a bad flag byte.
-pub fn take_refusal(mode: u8, taken: u32, flags: &[u8], values: &[u8], room: usize) -> u8
-    ensures { answer_numbered result ≡ take_answer (ltb 0 mode) taken (lent flags.now values.now) room }
+pub fn take_refusal(mode: u8, taken: u32, flags: &[u8], values: &[u8], room: usize) -> Result<(), Refusal>
+    ensures { answered result ≡ take_answer (ltb 0 mode) taken (lent flags.now values.now) room }
 {
     let n = flags.len();
     if mode == 0 {
-        return 3;
+        return Err(Refusal::NotOpen);
     }
     if n != values.len() {
-        return 4;
+        return Err(Refusal::Unequal);
     }
     if 4096 < n {
-        return 5;
+        return Err(Refusal::PieceLength);
     }
     if 32768 < taken as usize + n {
-        return 6;
+        return Err(Refusal::SweepLength);
     }
     if room < room_for(n as u16) {
-        return 7;
+        return Err(Refusal::NoRoom);
     }
     if has_bad(flags) {
-        return 8;
+        return Err(Refusal::BadFlag);
     }
-    0
+    Ok(())
 }
 
 // Close, with a reply buffer of `room` bytes. 3: no sweep open. 7: reply buffer under 144 bytes.
-pub fn close_refusal(mode: u8, room: usize) -> u8
-    ensures { answer_numbered result ≡ close_answer (ltb 0 mode) room }
+pub fn close_refusal(mode: u8, room: usize) -> Result<(), Refusal>
+    ensures { answered result ≡ close_answer (ltb 0 mode) room }
 {
     if mode == 0 {
-        return 3;
+        return Err(Refusal::NotOpen);
     }
     if room < CLOSE_ROOM {
-        return 7;
+        return Err(Refusal::NoRoom);
     }
-    0
+    Ok(())
 }

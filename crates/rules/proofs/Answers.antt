@@ -1,5 +1,6 @@
 -- What an accepted call shows: none of its refusal numbers held. And the records of replies in a buffer.
 use Prim.Native.Nat.{ℕ, ◌+◌, ◌≤◌}
+use Rattle.rules.specs.declared.Refusal.TheVariants.{PieceLength, NoRoom}
 use native.Mathlib.Omega.{arith}
 use mathlib.Core.Path.{◌≡◌, sym, ap, ◌∙◌}
 use mathlib.Core.Bool.{Bool, true, false, ◌&&◌}
@@ -57,7 +58,7 @@ unfolding take_answer
 took running taken P room e =
     let n = length P.flags in
     let k = length P.values in
-    let h = none-holds (not_open running ∷ unequal P ∷ check 5 (ltb piece_limit n) ∷ overlong (taken + n) ∷ check 7 (ltb room (take_room n)) ∷ bad_flag P.flags ∷ []) e in
+    let h = none-holds (not_open running ∷ unequal P ∷ check PieceLength (ltb piece_limit n) ∷ overlong (taken + n) ∷ check NoRoom (ltb room (take_room n)) ∷ bad_flag P.flags ∷ []) e in
     record {
       open-sweep = not-false running h.0;
       alike = eqb-true n k (not-false (eqb n k) h.1.0);
@@ -75,7 +76,7 @@ pub record Closes (running : Bool) (room : ℕ) : Type 0 where
 pub closes : (running : Bool) (room : ℕ) → close_answer running room ≡ accepted → Closes running room
 unfolding close_answer
 closes running room e =
-    let h = none-holds (not_open running ∷ check 7 (ltb room close_room) ∷ []) e in
+    let h = none-holds (not_open running ∷ check NoRoom (ltb room close_room) ∷ []) e in
     record { open-sweep = not-false running h.0; fits = ltb-false room close_room h.1.0 }
 
 -- ---- records in a buffer

@@ -5,7 +5,8 @@ use mathlib.Core.Path.{◌≡◌, refl, sym, ap, ◌∙◌}
 use mathlib.Core.Bool.{Bool, true, false, cond}
 use mathlib.Core.List.{List, [], ◌∷◌, ◌++◌}
 use Rattle.rules.specs.Lists.{All}
-use Rattle.rules.specs.Calls.{Refusal, accepted, refused, Check, first_of}
+use Rattle.rules.specs.declared.Refusal.{Refusal}
+use Rattle.rules.specs.Calls.{accepted, refused, Check, first_of}
 
 -- skipped
 pub first_skip : (c : Check) (cs : List Check) → c.holds ≡ false → first_of (c ∷ cs) ≡ first_of cs

@@ -1,6 +1,8 @@
 -- Opening, taking, closing: the refusal numbers in their order, the sizes of buffers, and what is handed out when.
-use Rattle.std.specs.Prelude.{ℕ, ◌+◌, ◌*◌, ◌/◌, Bool, not, ◌&&◌, cond, List, [], ◌∷◌, leb, ltb, eqb, length, replicate}
+use Rattle.std.specs.Prelude.{Result, Ok, Err, ℕ, ◌+◌, ◌*◌, ◌/◌, Bool, not, ◌&&◌, cond, List, [], ◌∷◌, leb, ltb, eqb, length, replicate}
 use Rattle.rules.specs.declared.Opening.{Opening}
+use Rattle.rules.specs.declared.Refusal.{Refusal}
+use Rattle.rules.specs.declared.Refusal.TheVariants.{Mode, Azimuth, NotOpen, Unequal, PieceLength, SweepLength, NoRoom, BadFlag, Malformed, NoFrame}
 use Rattle.rules.specs.declared.Reply.{Reply}
 use Rattle.rules.specs.Settings.{Settings}
 use Rattle.rules.specs.Lists.{any, filter, reject}
@@ -9,22 +11,36 @@ use Rattle.rules.specs.Replies.{f1}
 use Rattle.rules.specs.Machine.{final}
 use Rattle.rules.specs.Records.{record_size, replies}
 
--- why a call is turned down
-pub record Refusal : Type 0 where
-  pub number : ℕ
+-- the number of each refusal: 1 to 8 of calls, 9 and 10 of lines
+abbrev pub number_of : Refusal → ℕ
+number_of Mode = 1
+number_of Azimuth = 2
+number_of NotOpen = 3
+number_of Unequal = 4
+number_of PieceLength = 5
+number_of SweepLength = 6
+number_of NoRoom = 7
+number_of BadFlag = 8
+number_of Malformed = 9
+number_of NoFrame = 10
 
 -- a call is carried out, or turned down
 pub data Answer : Type 0 where
   accepted : Answer
   refused : Refusal → Answer
 
+-- the same, as the code answers it
+abbrev pub answered : Result Unit Refusal → Answer
+answered (Ok _) = accepted
+answered (Err r) = refused r
+
 -- a refusal, and whether it holds
 pub record Check : Type 0 where
   pub refusal : Refusal
   pub holds : Bool
 
-abbrev pub check : ℕ → Bool → Check
-check k b = record { refusal = record { number = k }; holds = b }
+abbrev pub check : Refusal → Bool → Check
+check r b = record { refusal = r; holds = b }
 
 -- "Each call tries its numbers in the order listed; the first that holds is returned, and without one the call is carried out."
 abbrev pub first_of : List Check → Answer
@@ -35,23 +51,23 @@ first_of (c ∷ cs) = cond c.holds (refused c.refusal) (first_of cs)
 
 -- "Mode is 1 (A), 2 (2) or 3 (C); azimuth 0 to 16,383". "1: mode not 1 to 3. 2: azimuth above 16,383."
 abbrev pub open_checks : Opening → List Check
-open_checks ω = check 1 (not (leb 1 ω.mode && leb ω.mode 3)) ∷ check 2 (ltb 16383 ω.azimuth) ∷ []
+open_checks ω = check Mode (not (leb 1 ω.mode && leb ω.mode 3)) ∷ check Azimuth (ltb 16383 ω.azimuth) ∷ []
 
 -- "3: no sweep open."
 abbrev pub not_open : Bool → Check
-not_open running = check 3 (not running)
+not_open running = check NotOpen (not running)
 
 -- "4: flag and value slices differ in length."
 abbrev pub unequal : Trace → Check
-unequal P = check 4 (not (eqb (length P.flags) (length P.values)))
+unequal P = check Unequal (not (eqb (length P.flags) (length P.values)))
 
 -- "6: sweep would pass 32,768."
 abbrev pub overlong : ℕ → Check
-overlong n = check 6 (ltb sweep_limit n)
+overlong n = check SweepLength (ltb sweep_limit n)
 
 -- "8: a bad flag byte."
 abbrev pub bad_flag : List ℕ → Check
-bad_flag flags = check 8 (any bad flags)
+bad_flag flags = check BadFlag (any bad flags)
 
 -- ---- the calls
 
@@ -82,15 +98,15 @@ take_answer running taken P room =
     first_of
     (not_open running
     ∷ unequal P
-    ∷ check 5 (ltb piece_limit (length P.flags))
+    ∷ check PieceLength (ltb piece_limit (length P.flags))
     ∷ overlong (taken + length P.flags)
-    ∷ check 7 (ltb room (take_room (length P.flags)))
+    ∷ check NoRoom (ltb room (take_room (length P.flags)))
     ∷ bad_flag P.flags
     ∷ [])
 
 -- "Close. 3, then 7 for under 144 bytes."
 unfoldable pub close_answer : Bool → ℕ → Answer
-close_answer running room = first_of (not_open running ∷ check 7 (ltb room close_room) ∷ [])
+close_answer running room = first_of (not_open running ∷ check NoRoom (ltb room close_room) ∷ [])
 
 -- "A reply with F1 at q, unless removed, is written by the first call after which at least q+385 ticks have been taken, in order of q"
 -- n is how many ticks have been taken.

@@ -1,6 +1,9 @@
 // The types of the domain. The rules themselves are in specs/, their laws in proofs/.
 #![tactic(auto)]
 
+ghost use Rattle.std.specs.Prelude.{◌≡◌};
+ghost use Rattle.rules.specs.Calls.{number_of};
+
 // A clock tick of 1.45 us / 12, counted from 0 at the opening of the sweep.
 #[derive(Clone, Copy)]
 pub struct Tick(pub u32);
@@ -122,4 +125,39 @@ pub struct Totals {
     pub garbled: u16,
     pub lost: u16,
     pub phantoms: u16,
+}
+
+// Why a call or a line is turned down.
+#[derive(Clone, Copy)]
+pub enum Refusal {
+    Mode,
+    Azimuth,
+    NotOpen,
+    Unequal,
+    PieceLength,
+    SweepLength,
+    NoRoom,
+    BadFlag,
+    Malformed,
+    NoFrame,
+}
+
+// The number of a refusal.
+impl From<Refusal> for u8 {
+    ghost from_gives = { λ refusal n. n ≡ number_of refusal };
+
+    fn from(refusal: Refusal) -> u8 {
+        match refusal {
+            Refusal::Mode => 1,
+            Refusal::Azimuth => 2,
+            Refusal::NotOpen => 3,
+            Refusal::Unequal => 4,
+            Refusal::PieceLength => 5,
+            Refusal::SweepLength => 6,
+            Refusal::NoRoom => 7,
+            Refusal::BadFlag => 8,
+            Refusal::Malformed => 9,
+            Refusal::NoFrame => 10,
+        }
+    }
 }

@@ -1,5 +1,6 @@
 -- The refusals of a whole sweep in one call.
 use Rattle.std.specs.Prelude.{ℕ, ◌+◌, not, ◌&&◌, ◌||◌, List, [], ◌∷◌, ◌++◌, leb, ltb, length}
+use Rattle.rules.specs.declared.Refusal.TheVariants.{PieceLength, NoRoom}
 use Rattle.rules.specs.declared.Opening.{Opening}
 use Rattle.rules.specs.Samples.{Trace, piece_limit}
 use Rattle.rules.specs.Records.{totals_size}
@@ -14,9 +15,9 @@ whole_room_lem n = take_room n + close_room
 abbrev pub lent_checks : Trace → ℕ → ℕ → ℕ → List Check
 lent_checks T piece room totalsRoom =
     unequal T
-    ∷ check 5 (not (leb 1 piece && leb piece piece_limit))
+    ∷ check PieceLength (not (leb 1 piece && leb piece piece_limit))
     ∷ overlong (length T.flags)
-    ∷ check 7 (ltb room (whole_room_lem (length T.flags)) || ltb totalsRoom totals_size)
+    ∷ check NoRoom (ltb room (whole_room_lem (length T.flags)) || ltb totalsRoom totals_size)
     ∷ bad_flag T.flags
     ∷ []
 

@@ -1,2 +1,0 @@
--- Answers as numbers.
-pub mod Numbers
