@@ -39,8 +39,8 @@ fn opened(p: Processor, opening: Opening, out: &mut [u8], at: usize) -> Stepped
     let o = open(opening);
     let answer = o.answer;
     match answer {
-        Answer::Refused(number) => stop(p, number, out, at),
-        Answer::Accepted(_) => with_processor(Step::Goes(at), o.processor),
+        Err(number) => stop(p, number, out, at),
+        Ok(_) => with_processor(Step::Goes(at), o.processor),
     }
 }
 

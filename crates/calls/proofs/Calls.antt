@@ -6,6 +6,8 @@ use mathlib.Core.Path.{◌≡◌, refl, sym, ap, ◌∙◌, subst}
 use mathlib.Core.Bool.{true, false}
 use mathlib.Core.List.{List, [], ◌∷◌, ◌++◌, append-nil, append_assoc, map}
 use lib.ListN.{length}
+use Rattle.rules.specs.declared.Refusal.{Refusal}
+use Rattle.rules.specs.declared.Refusal.TheVariants.{NotOpen}
 use Rattle.rules.specs.declared.Opening.{Opening}
 use Rattle.rules.specs.declared.Totals.{Totals}
 use Rattle.rules.specs.Settings.{standard}
@@ -20,8 +22,8 @@ use Rattle.rules.proofs.Joining.{handed-fresh, handed-rest, records-append}
 use Rattle.rules.proofs.Answers.{standard_allowed, named, took, first-records, join_assoc, join_nothing}
 use Rattle.processor.specs.declared.Processor.{Processor}
 use Rattle.processor.specs.State.{none, running, idle_processor, running_processor, processor_of, Within, Made}
-use Rattle.calls.specs.declared.Answer.TheVariants.{Accepted, Refused}
-use Rattle.calls.specs.declared.Opened.{Opened}
+use Rattle.std.specs.Prelude.{Ok, Err}
+use Rattle.calls.specs.declared.Answered.{Answered}
 use Rattle.calls.specs.Post.{open_as, open_of, take_answer_at, take_as, take_buffer_as, longer, close_answer_at, close_as, close_buffer_as}
 use Rattle.calls.specs.Whole.{Request, to_take, to_close, Call, taking, closing, request, Bytes, Chain, last, joined_trace, all_handed_out, all_totals, Judged, answer, after_close, Counted, Whole, Begins, Demand3}
 use Rattle.calls.specs.OneChain.{EachOneChain}
@@ -30,7 +32,7 @@ use Rattle.calls.proofs.Fold.{sweep_as, calls_of, within_more, chain-is, chain-b
 -- ---- after an accepted close
 
 abbrev Three : Call → Type 0
-Three c = answer c ≡ Refused 3
+Three c = answer c ≡ Err NotOpen
 
 record Over (cs : List Call) : Type 0 where
   judged : Judged none cs
@@ -202,31 +204,31 @@ whole_of ω cs c =
     }
 
 -- mode 1 to 3, and the processor of a sweep with no tick taken
-record Begun (ω : Opening) (o : Opened) : Type 0 where
+record Begun (ω : Opening) (o : Answered) : Type 0 where
   sent : Sent ω nothing
   processor : o.processor ≡ running_processor ω nothing
 
-begun : (ω : Opening) (o : Opened) → Begins ω o → Begun ω o
+begun : (ω : Opening) (o : Answered) → Begins ω o → Begun ω o
 unfolding open_of
 begun ω o b = go (open_answer ω) refl b.opened
   where
-    clash : (n : ℕ) → Accepted b.count ≡ Refused n → ⊥
+    clash : (n : Refusal) → Ok b.count ≡ Err n → ⊥
     clash n c = let z : ◌≡◌ {A = ℕ} 0 1 = cc in omega arith
 
     go : (v : Answer) → open_answer ω ≡ v → o ≡ open_as v ω → Begun ω o
     go accepted a d =
         record {
           sent = record { within = record { named = (named ω a).least; alike = refl; short = omega arith; bytes = tt }; good = refl };
-          processor = ap (λ (x : Opened). x.processor) d;
+          processor = ap (λ (x : Answered). x.processor) d;
         }
-    go (refused r) a d = absurd (clash r.number (sym b.accepts ∙ ap (λ (x : Opened). x.answer) d))
+    go (refused r) a d = absurd (clash r (sym b.accepts ∙ ap (λ (x : Answered). x.answer) d))
 
 -- the processor of an accepted opening is that of a sweep with no tick
-made : (ω : Opening) (o : Opened) → Begun ω o → Made (running ω nothing) o.processor
+made : (ω : Opening) (o : Answered) → Begun ω o → Made (running ω nothing) o.processor
 unfolding processor_of
 made ω o b = record { is = b.processor; sound = b.sent.within }
 
-whole : (ω : Opening) (o : Opened) → Begins ω o → (cs : List Call) → Chain o.processor cs → Whole ω o.processor cs
+whole : (ω : Opening) (o : Answered) → Begins ω o → (cs : List Call) → Chain o.processor cs → Whole ω o.processor cs
 whole ω o e cs h =
     let b = begun ω o e in
     let c = claim (map request cs) (chain-bytes cs o.processor h) ω nothing b.sent in

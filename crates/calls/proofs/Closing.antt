@@ -6,7 +6,7 @@ use Rattle.rules.specs.declared.Counts.{Counts}
 use Rattle.rules.specs.declared.Totals.{Totals}
 use Rattle.processor.specs.declared.Processor.{Processor}
 use Rattle.processor.specs.State.{idle_processor}
-use Rattle.calls.specs.declared.Answer.{Answer}
+use Rattle.calls.specs.Answers.{Answer}
 use Rattle.calls.specs.declared.Closed.{Closed}
 use Rattle.calls.specs.Post.{totals_from}
 

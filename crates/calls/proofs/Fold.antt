@@ -14,7 +14,7 @@ use Rattle.rules.proofs.ListLaws.{all_append}
 use Rattle.rules.proofs.Answers.{took}
 use Rattle.processor.specs.declared.Processor.{Processor}
 use Rattle.processor.specs.State.{Sweep, none, running, processor_of, Within, Sound, Made}
-use Rattle.calls.specs.declared.Taken.{Taken}
+use Rattle.calls.specs.declared.Answered.{Answered}
 use Rattle.calls.specs.declared.Closed.{Closed}
 use Rattle.calls.specs.Post.{longer, take_answer_at, take_as, take_buffer_as, close_answer_at, close_as, close_buffer_as}
 use Rattle.calls.specs.Whole.{Request, to_take, to_close, Call, taking, closing, request, Bytes, left, Chain, sweep_by}
@@ -69,7 +69,7 @@ closed-made σ (refused r) s = record { is = refl; sound = s }
 
 -- ---- a chain is the fold
 
-take_same : (P : Trace) (b : List ℕ) (r r' : Taken) (b' b'' : List ℕ) (cs ds : List Call) → r ≡ r' → b' ≡ b'' → cs ≡ ds → taking P b r b' ∷ cs ≡ taking P b r' b'' ∷ ds
+take_same : (P : Trace) (b : List ℕ) (r r' : Answered) (b' b'' : List ℕ) (cs ds : List Call) → r ≡ r' → b' ≡ b'' → cs ≡ ds → taking P b r b' ∷ cs ≡ taking P b r' b'' ∷ ds
 take_same P b r r' b' b'' cs ds e f g = λ i. taking P b (e i) (f i) ∷ g i
 
 close-same : (b : List ℕ) (r r' : Closed) (b' b'' : List ℕ) (cs ds : List Call) → r ≡ r' → b' ≡ b'' → cs ≡ ds → closing b r b' ∷ cs ≡ closing b r' b'' ∷ ds
@@ -80,7 +80,7 @@ chain-is [] σ p m h = refl
 chain-is (taking P b r b' ∷ cs) σ p m h =
     let v = take_answer_at σ P (length b) in
     let e = h.1.result σ m in
-    let k = subst (λ (t : Taken). Made (sweep_as v (longer σ P) σ) t.processor) (sym e) (took_made σ P (length b) v refl m.sound h.0) in
+    let k = subst (λ (t : Answered). Made (sweep_as v (longer σ P) σ) t.processor) (sym e) (took_made σ P (length b) v refl m.sound h.0) in
     take_same P b r (take_as v σ P) b' (take_buffer_as v σ P b) cs (calls_of (sweep_as v (longer σ P) σ) (map request cs)) e (h.1.buffer σ m)
     (chain-is cs (sweep_as v (longer σ P) σ) r.processor k h.2)
 chain-is (closing b r b' ∷ cs) σ p m h =

@@ -5,7 +5,7 @@ use Rattle.rules.specs.Lists.{All}
 use Rattle.rules.specs.Samples.{nothing}
 use Rattle.processor.specs.declared.Processor.{Processor}
 use Rattle.processor.specs.State.{Sweep, none, running}
-use Rattle.calls.specs.declared.Opened.{Opened}
+use Rattle.calls.specs.declared.Answered.{Answered}
 use Rattle.calls.specs.Post.{longer, take_answer_at, take_as, take_buffer_as, close_answer_at, close_as, close_buffer_as}
 use Rattle.calls.specs.Whole.{Request, Bytes, Call, taking, closing, request, Chain, sweep_by, Begins}
 
@@ -33,4 +33,4 @@ pub record OneChain (p : Processor) (ω : Opening) (qs : List Request) : Type 0 
   pub only : (ds : List Call) → map request ds ≡ qs → Chain p ds → ds ≡ calls
 
 abbrev pub EachOneChain : Type 0
-EachOneChain = (ω : Opening) (o : Opened) → Begins ω o → (qs : List Request) → All Bytes qs → OneChain o.processor ω qs
+EachOneChain = (ω : Opening) (o : Answered) → Begins ω o → (qs : List Request) → All Bytes qs → OneChain o.processor ω qs

@@ -9,21 +9,20 @@ use Rattle.rules.specs.Machine.{final}
 use Rattle.rules.specs.Records.{record_size, records, totals}
 use Rattle.rules.specs.Calls.{Answer, accepted, refused, open_answer, take_answer, close_answer, fresh, rest}
 use Rattle.rules.specs.declared.Totals.{Totals}
-use Rattle.calls.specs.declared.Answer.TheVariants.{Accepted, Refused}
+use Rattle.std.specs.Prelude.{Ok, Err}
 use Rattle.rules.specs.declared.Counts.{Counts}
 use Rattle.processor.specs.declared.Processor.{Processor}
-use Rattle.calls.specs.declared.Opened.{Opened}
-use Rattle.calls.specs.declared.Taken.{Taken}
+use Rattle.calls.specs.declared.Answered.{Answered}
 use Rattle.calls.specs.declared.Closed.{Closed}
 use Rattle.processor.specs.State.{Sweep, none, running, processor_of, idle_processor, running_processor, is_open, taken_by, Made}
 
 -- ---- open. "No processor comes back": a refused opening's is the idle one.
 
-abbrev pub open_as : Answer → Opening → Opened
-open_as accepted ω = record { answer = Accepted 0; processor = running_processor ω nothing }
-open_as (refused r) ω = record { answer = Refused r.number; processor = idle_processor }
+abbrev pub open_as : Answer → Opening → Answered
+open_as accepted ω = record { answer = Ok 0; processor = running_processor ω nothing }
+open_as (refused r) ω = record { answer = Err r; processor = idle_processor }
 
-unfoldable pub open_of : Opening → Opened
+unfoldable pub open_of : Opening → Answered
 unfolding open_answer
 open_of ω = open_as (open_answer ω) ω
 
@@ -46,20 +45,20 @@ unfoldable pub take_answer_at : Sweep → Trace → ℕ → Answer
 unfolding take_answer
 take_answer_at σ P room = take_answer (is_open σ) (taken_by σ) P room
 
-abbrev pub take_as : Answer → Sweep → Trace → Taken
-take_as accepted σ P = record { answer = Accepted (count_of σ P); processor = processor_of (longer σ P) }
-take_as (refused r) σ P = record { answer = Refused r.number; processor = processor_of σ }
+abbrev pub take_as : Answer → Sweep → Trace → Answered
+take_as accepted σ P = record { answer = Ok (count_of σ P); processor = processor_of (longer σ P) }
+take_as (refused r) σ P = record { answer = Err r; processor = processor_of σ }
 
 abbrev pub take_buffer_as : Answer → Sweep → Trace → List ℕ → List ℕ
 take_buffer_as accepted σ P b = over (handed_out σ P) b
 take_buffer_as (refused r) σ P b = b
 
-pub record TakePost (p : Processor) (P : Trace) (b : List ℕ) (r : Taken) (b' : List ℕ) : Type 0 where
+pub record TakePost (p : Processor) (P : Trace) (b : List ℕ) (r : Answered) (b' : List ℕ) : Type 0 where
   pub result : (σ : Sweep) → Made σ p → r ≡ take_as (take_answer_at σ P (length b)) σ P
   pub buffer : (σ : Sweep) → Made σ p → b' ≡ take_buffer_as (take_answer_at σ P (length b)) σ P b
 
 -- A piece that nothing turns down: where a sweep is open, flags and values are alike, and the buffer has room for the records that the piece lets out.
-pub record TakenPiece (p : Processor) (P : Trace) (b : List ℕ) (r : Taken) (b' : List ℕ) : Type 0 where
+pub record TakenPiece (p : Processor) (P : Trace) (b : List ℕ) (r : Answered) (b' : List ℕ) : Type 0 where
   pub done : (ω : Opening) (T : Trace) → Made (running ω T) p → length P.flags ≡ length P.values → record_size * length (fresh standard T P) ≤ length b
       → (r ≡ take_as accepted (running ω T) P) × (b' ≡ take_buffer_as accepted (running ω T) P b)
 
@@ -87,8 +86,8 @@ totals_of_lem (running ω T) = totals (final standard T)
 
 -- a refusal "returns its number alone": the totals beside it are zero
 abbrev pub close_as : Answer → Sweep → Closed
-close_as accepted σ = record { answer = Accepted (left_count σ); totals = totals_of_lem σ; processor = idle_processor }
-close_as (refused r) σ = record { answer = Refused r.number; totals = no_totals_lem; processor = processor_of σ }
+close_as accepted σ = record { answer = Ok (left_count σ); totals = totals_of_lem σ; processor = idle_processor }
+close_as (refused r) σ = record { answer = Err r; totals = no_totals_lem; processor = processor_of σ }
 
 abbrev pub close_buffer_as : Answer → Sweep → List ℕ → List ℕ
 close_buffer_as accepted σ b = over (left_over σ) b

@@ -1,5 +1,6 @@
 -- Demand 3: every list of takes and closes, refused ones included and in any order, from the processor of an accepted opening.
 use Rattle.std.specs.Prelude.{ℕ, ◌+◌, ◌≤◌, false, List, [], ◌∷◌, ◌++◌, ◌≡◌, length}
+use Rattle.rules.specs.declared.Refusal.TheVariants.{NotOpen}
 use Rattle.rules.specs.declared.Opening.{Opening}
 use Rattle.rules.specs.Settings.{standard}
 use Rattle.rules.specs.Lists.{any, All}
@@ -8,11 +9,10 @@ use Rattle.rules.specs.Machine.{given, final, brackets_below}
 use Rattle.rules.specs.Records.{first_records, records, replies, totals}
 use Rattle.rules.specs.Calls.{Answer as RulesAnswer, accepted, refused, handed}
 use Rattle.rules.specs.declared.Totals.{Totals}
-use Rattle.calls.specs.declared.Answer.{Answer}
-use Rattle.calls.specs.declared.Answer.TheVariants.{Accepted, Refused}
+use Rattle.calls.specs.Answers.{Answer}
+use Rattle.std.specs.Prelude.{Ok, Err}
 use Rattle.processor.specs.declared.Processor.{Processor}
-use Rattle.calls.specs.declared.Opened.{Opened}
-use Rattle.calls.specs.declared.Taken.{Taken}
+use Rattle.calls.specs.declared.Answered.{Answered}
 use Rattle.calls.specs.declared.Closed.{Closed}
 use Rattle.processor.specs.State.{Sweep, none, running, idle_processor, running_processor, Within}
 use Rattle.calls.specs.Post.{open_of, longer, take_answer_at, close_answer_at, TakePost, ClosePost}
@@ -26,7 +26,7 @@ pub data Request : Type 0 where
 
 -- A call: what it was lent (a piece, a buffer), what it returned, and the buffer as it left it.
 pub data Call : Type 0 where
-  taking : (P : Trace) (b : List ℕ) (r : Taken) (b' : List ℕ) → Call
+  taking : (P : Trace) (b : List ℕ) (r : Answered) (b' : List ℕ) → Call
   closing : (b : List ℕ) (r : Closed) (b' : List ℕ) → Call
 
 abbrev pub request : Call → Request
@@ -60,8 +60,8 @@ last p (c ∷ cs) = last (left c) cs
 -- ---- what the calls say, end to end
 
 abbrev pub piece_by : Answer → Trace → Trace
-piece_by (Accepted k) P = P
-piece_by (Refused k) P = nothing
+piece_by (Ok k) P = P
+piece_by (Err k) P = nothing
 
 abbrev pub piece : Call → Trace
 piece (taking P b r b') = piece_by r.answer P
@@ -74,8 +74,8 @@ joined_trace (c ∷ cs) = piece c ⧺ joined_trace cs
 
 -- "Replies handed out: from each accepted call's buffer, as that call left it, the first records, as many as its count, end to end in call order."
 abbrev pub handed_by : Answer → List ℕ → List ℕ
-handed_by (Accepted k) b' = first_records k b'
-handed_by (Refused k) b' = []
+handed_by (Ok k) b' = first_records k b'
+handed_by (Err k) b' = []
 
 abbrev pub handed_out : Call → List ℕ
 handed_out (taking P b r b') = handed_by r.answer b'
@@ -87,8 +87,8 @@ all_handed_out (c ∷ cs) = handed_out c ++ all_handed_out cs
 
 -- the totals of each accepted close
 abbrev pub totals_by : Answer → Totals → List Totals
-totals_by (Accepted k) x = x ∷ []
-totals_by (Refused k) x = []
+totals_by (Ok k) x = x ∷ []
+totals_by (Err k) x = []
 
 abbrev pub totals_in : Call → List Totals
 totals_in (taking P b r b') = []
@@ -102,12 +102,12 @@ all_totals (c ∷ cs) = totals_in c ++ all_totals cs
 
 -- "A call is accepted exactly when none of its refusal numbers holds", and otherwise returns the first that holds, at the sweep that the calls before it made
 abbrev pub answer_by : Answer → RulesAnswer
-answer_by (Accepted k) = accepted
-answer_by (Refused k) = refused (record { number = k })
+answer_by (Ok k) = accepted
+answer_by (Err k) = refused k
 
 abbrev pub sweep_by : Answer → Sweep → Sweep → Sweep
-sweep_by (Accepted k) σ' σ = σ'
-sweep_by (Refused k) σ' σ = σ
+sweep_by (Ok k) σ' σ = σ'
+sweep_by (Err k) σ' σ = σ
 
 abbrev pub Judged : Sweep → List Call → Type 0
 Judged σ [] = Unit {0}
@@ -120,8 +120,8 @@ answer (closing b r b') = r.answer
 
 -- the calls after the first accepted close
 abbrev pub after_by : Answer → List Call → List Call → List Call
-after_by (Accepted k) cs ds = cs
-after_by (Refused k) cs ds = ds
+after_by (Ok k) cs ds = cs
+after_by (Err k) cs ds = ds
 
 abbrev pub after_close : List Call → List Call
 after_close [] = []
@@ -146,17 +146,17 @@ pub record Whole (ω : Opening) (p : Processor) (cs : List Call) : Type 0 where
   -- once a close has been accepted, it is the only one; replies and totals are those of the joined trace; every later call is refused with 3
   pub closed : (x : Totals) (xs : List Totals) → all_totals cs ≡ x ∷ xs
       → (xs ≡ []) × Counted (joined_trace cs) x × (all_handed_out cs ≡ records (replies (final standard (joined_trace cs)))) × (last p cs ≡ idle_processor)
-  pub later : All (λ c. answer c ≡ Refused 3) (after_close cs)
+  pub later : All (λ c. answer c ≡ Err NotOpen) (after_close cs)
 
 -- the processor o of an accepted opening with ω
-pub record Begins (ω : Opening) (o : Opened) : Type 0 where
+pub record Begins (ω : Opening) (o : Answered) : Type 0 where
   pub opened : o ≡ open_of ω
   pub count : ℕ
-  pub accepts : o.answer ≡ Accepted count
+  pub accepts : o.answer ≡ Ok count
 
 pub record Demand3 : Type 0 where
   -- for every list of calls that starts from the processor of an accepted opening
-  pub whole : (ω : Opening) (o : Opened) → Begins ω o → (cs : List Call) → Chain o.processor cs → Whole ω o.processor cs
+  pub whole : (ω : Opening) (o : Answered) → Begins ω o → (cs : List Call) → Chain o.processor cs → Whole ω o.processor cs
   -- "lists alike in these three leave equal processors"
-  pub alike : (ω : Opening) (o : Opened) → Begins ω o → (cs ds : List Call) → Chain o.processor cs → Chain o.processor ds
+  pub alike : (ω : Opening) (o : Answered) → Begins ω o → (cs ds : List Call) → Chain o.processor cs → Chain o.processor ds
       → all_totals cs ≡ [] → all_totals ds ≡ [] → joined_trace cs ≡ joined_trace ds → last o.processor cs ≡ last o.processor ds

@@ -6,30 +6,22 @@ ghost use Rattle.rules.specs.Samples.{nothing};
 ghost use Rattle.rules.specs.Records.{record_size};
 ghost use Rattle.processor.specs.State.{idle_processor, running_processor};
 ghost use Rattle.calls.specs.Post.{no_totals_lem, totals_from};
-ghost use Rattle.calls.specs.declared.Answer.TheVariants.{Accepted, Refused};
+ghost use Rattle.std.specs.Prelude.{Ok, Err};
 
 use processor::{Processor, Progress, begun, idle};
-use rules::{Counts, Opening, RECORD, Totals};
+use rules::{Counts, Opening, RECORD, Refusal, Totals};
 
-// A call was carried out, with so many records written, or turned down with a number.
-#[derive(Clone, Copy)]
-pub enum Answer {
-    Accepted(usize),
-    Refused(u8),
-}
+// A call was carried out, with so many records written, or turned down.
+pub type Answer = Result<usize, Refusal>;
 
+// The answer of an opening or a take, and the processor after it.
 #[derive(Clone, Copy)]
-pub struct Opened {
+pub struct Answered {
     pub answer: Answer,
     pub processor: Processor,
 }
 
-#[derive(Clone, Copy)]
-pub struct Taken {
-    pub answer: Answer,
-    pub processor: Processor,
-}
-
+// The answer of a close, with the totals.
 #[derive(Clone, Copy)]
 pub struct Closed {
     pub answer: Answer,
@@ -38,21 +30,21 @@ pub struct Closed {
 }
 
 // An answer beside the processor of a sweep with no tick taken.
-pub fn opened_with(answer: Answer, opening: Opening) -> Opened
+pub fn opened_with(answer: Answer, opening: Opening) -> Answered
     ensures { result ≡ record { answer = answer; processor = running_processor opening nothing } }
 {
-    Opened {
+    Answered {
         answer,
         processor: begun(opening),
     }
 }
 
 // A take that is turned down.
-pub fn no_take(p: Processor, number: u8) -> Taken
-    ensures { result ≡ record { answer = Refused number; processor = p } }
+pub fn no_take(p: Processor, refusal: Refusal) -> Answered
+    ensures { result ≡ record { answer = Err refusal; processor = p } }
 {
-    Taken {
-        answer: Answer::Refused(number),
+    Answered {
+        answer: Answer::Err(refusal),
         processor: p,
     }
 }
@@ -82,11 +74,11 @@ fn totals_of(c: Counts) -> Totals
 }
 
 // A close that is turned down.
-pub fn no_close(p: Processor, number: u8) -> Closed
-    ensures { result ≡ record { answer = Refused number; totals = no_totals_lem; processor = p } }
+pub fn no_close(p: Processor, refusal: Refusal) -> Closed
+    ensures { result ≡ record { answer = Err refusal; totals = no_totals_lem; processor = p } }
 {
     Closed {
-        answer: Answer::Refused(number),
+        answer: Answer::Err(refusal),
         totals: Totals {
             found: 0,
             replies: 0,
@@ -101,11 +93,11 @@ pub fn no_close(p: Processor, number: u8) -> Closed
 
 // What a close answers after the zeros past the end.
 pub fn closed_after(y: Progress) -> Closed
-    ensures { result ≡ record { answer = Accepted (y.at / record_size); totals = totals_from y.counts; processor = idle_processor } }
+    ensures { result ≡ record { answer = Ok (y.at / record_size); totals = totals_from y.counts; processor = idle_processor } }
 {
     let counts = y.counts;
     Closed {
-        answer: Answer::Accepted(y.at / RECORD),
+        answer: Answer::Ok(y.at / RECORD),
         totals: totals_of(counts),
         processor: idle(),
     }

@@ -23,9 +23,9 @@ use Rattle.rules.proofs.Checks.{all_skip}
 use Rattle.rules.proofs.Buffers.{over-at-nil}
 use Rattle.rules.proofs.Joining.{handed-fresh, append-same, fresh_join}
 use Rattle.rules.proofs.HandingOut.{fresh-most}
-use Rattle.calls.specs.declared.Answer.TheVariants.{Accepted, Refused}
+use Rattle.std.specs.Prelude.{Ok, Err}
 use Rattle.processor.specs.declared.Processor.{Processor}
-use Rattle.calls.specs.declared.Taken.{Taken}
+use Rattle.calls.specs.declared.Answered.{Answered}
 use Rattle.processor.specs.State.{Sweep, none, running, Sound, Made}
 use Rattle.calls.specs.Post.{longer, take_answer_at, TakePost}
 use Rattle.rules.proofs.Answers.{standard_allowed, took, join_assoc, join_nothing}
@@ -317,12 +317,12 @@ part-short (x ∷ l) (suc n) zero h = absurd (omega arith)
 part-short (x ∷ l) (suc n) (suc m) h = omega (arith, part-short l n m (omega arith))
 
 module _ (p : Processor) (T : Trace) (from to at : ℕ) (b : List ℕ) (room : at + batch_most ≤ length b) (small : length T.flags ≤ 4096)
-    (h₀ h : List ℕ) (lent : length h₀ ≡ batch_room) (t : Taken) (post : TakePost p T h₀ t h) where
+    (h₀ h : List ℕ) (lent : length h₀ ≡ batch_room) (t : Answered) (post : TakePost p T h₀ t h) where
   few : (σ : Sweep) → record_size * length (fresh_of σ T) ≤ batch_room
   few none = omega arith
   few (running ω T₀) = omega (arith, fresh-most standard T₀ T)
 
-  pub all-refused : (k : ℕ) → t.answer ≡ Refused k → TookAll p T from to at b (record { processor = t.processor; from = from; at = at }) b
+  pub all-refused : (k : ℕ) → t.answer ≡ Err k → TookAll p T from to at b (record { processor = t.processor; from = from; at = at }) b
   all-refused k e =
       record {
         either = inl refl;
@@ -333,7 +333,7 @@ module _ (p : Processor) (T : Trace) (from to at : ℕ) (b : List ℕ) (room : a
         output = λ σ m. sym (over-at-nil at b) ∙ ap (λ (v : Answer). over-at (printed_as v σ T) at b) (sym (turned_down p at b T batch_room few h₀ h lent t post k e σ m));
       }
 
-  pub all-accepted : (n : ℕ) → t.answer ≡ Accepted n → (e : ℕ) (b' : List ℕ) → WritePost (first_lines n h) at b e b'
+  pub all-accepted : (n : ℕ) → t.answer ≡ Ok n → (e : ℕ) (b' : List ℕ) → WritePost (first_lines n h) at b e b'
       → TookAll p T from to at b (record { processor = t.processor; from = to; at = e }) b'
   all-accepted n q e b' w =
       record {

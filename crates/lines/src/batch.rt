@@ -103,12 +103,12 @@ fn take_all(
     let answer = t.answer;
     let next = t.processor;
     match answer {
-        Answer::Refused(_) => Batched {
+        Err(_) => Batched {
             processor: next,
             from,
             at,
         },
-        Answer::Accepted(count) => {
+        Ok(count) => {
             let end = reply_lines(&handed, count, out, at);
             Batched {
                 processor: next,

@@ -22,7 +22,7 @@ use Rattle.rules.proofs.HandingOut.{fresh-most, rest-most}
 use Rattle.rules.proofs.Joining.{records-length}
 use Rattle.processor.specs.declared.Processor.{Processor}
 use Rattle.processor.specs.State.{running, running_processor, processor_of, Within, Made}
-use Rattle.calls.specs.declared.Taken.{Taken}
+use Rattle.calls.specs.declared.Answered.{Answered}
 use Rattle.calls.specs.declared.Closed.{Closed}
 use Rattle.calls.specs.Post.{open_as, open_of, take_answer_at, take_as, take_buffer_as, close_answer_at, close_as, close_buffer_as, TakePost, ClosePost}
 use Rattle.calls.specs.Whole.{Call, taking, closing, Meets, Chain, piece_by, joined_trace, handed_by, all_handed_out, totals_by, all_totals, Whole, Begins}
@@ -81,7 +81,7 @@ module _ (ω : Opening) (opens : open_answer ω ≡ accepted) where
     module _ (size : length b ≡ length b₀) where
       -- ---- a take more
 
-      module _ (P : Trace) (r : Taken) (m' : List ℕ) (post : TakePost p P (mid_of at (length b - at) b) r m') (bytes : All (λ v. v ≤ 255) P.values)
+      module _ (P : Trace) (r : Answered) (m' : List ℕ) (post : TakePost p P (mid_of at (length b - at) b) r m') (bytes : All (λ v. v ≤ 255) P.values)
           (clear : take_answer_at (running ω T) P (length b - at) ≡ accepted) where
         abbrev m : List ℕ
         m = mid_of at (length b - at) b
@@ -102,10 +102,10 @@ module _ (ω : Opening) (opens : open_answer ω ≡ accepted) where
         buffer-is = post.buffer (running ω T) made ∙ ap (λ (v : Answer). take_buffer_as v (running ω T) P m) accepts
 
         pub count-is : count_in_lem r.answer ≡ length F
-        count-is = ap (λ (t : Taken). count_in_lem t.answer) result-is
+        count-is = ap (λ (t : Answered). count_in_lem t.answer) result-is
 
         handed-is : handed_by r.answer m' ≡ records F
-        handed-is = ap (λ (t : Taken). handed_by t.answer m') result-is ∙ ap (first_records (length F)) buffer-is ∙ first-records F m
+        handed-is = ap (λ (t : Answered). handed_by t.answer m') result-is ∙ ap (first_records (length F)) buffer-is ∙ first-records F m
 
         all-handed : all_handed_out (h.calls ++ (c ∷ [])) ≡ all_handed_out h.calls ++ records F
         all-handed = handed-more h.calls c ∙ ap (λ (l : List ℕ). all_handed_out h.calls ++ l) handed-is
@@ -122,7 +122,7 @@ module _ (ω : Opening) (opens : open_answer ω ≡ accepted) where
               leaves = last_more h.calls (open_of ω).processor c;
               joined =
                   joined-more h.calls c
-                  ∙ ap₂ (λ (R S : Trace). R ⧺ S) h.joined (ap (λ (t : Taken). piece_by t.answer P) result-is);
+                  ∙ ap₂ (λ (R S : Trace). R ⧺ S) h.joined (ap (λ (t : Answered). piece_by t.answer P) result-is);
               unclosed = totals-more h.calls c ∙ ap (λ (l : List Totals). l ++ []) h.unclosed;
               place = omega (arith, h.place, count-is, ap length all-handed, length-append (all_handed_out h.calls) (records F), records-length F);
               inside = omega (arith, fits, count-is);

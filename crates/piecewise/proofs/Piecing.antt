@@ -18,9 +18,9 @@ use Rattle.rules.proofs.ListLaws.{any-first, any-second}
 use Rattle.rules.proofs.HandingOut.{fresh-most}
 use Rattle.processor.specs.declared.Processor.{Processor}
 use Rattle.processor.specs.State.{running}
-use Rattle.calls.specs.declared.Taken.{Taken}
+use Rattle.calls.specs.declared.Answered.{Answered}
 use Rattle.calls.specs.declared.Closed.{Closed}
-use Rattle.calls.specs.declared.Answer.TheVariants.{Accepted}
+use Rattle.std.specs.Prelude.{Ok}
 use Rattle.calls.specs.Post.{open_of, take_answer_at, close_answer_at, TakePost, ClosePost}
 use Rattle.whole_refusals.specs.Whole.{whole_answer}
 use Rattle.takes.specs.Post.{part}
@@ -98,7 +98,7 @@ module _ (ω : Opening) (T : Trace) (piece : ℕ) (b₀ : List ℕ) (ok : whole_
     room-left = omega (arith, at_most, shows.room, h.size, h.reach)
 
     -- one more
-    module _ (bytes : All (λ v. v ≤ 255) T.values) (end : ℕ) (step : end ≡ i + min piece (length T.flags - i)) (r : Taken) (m' : List ℕ)
+    module _ (bytes : All (λ v. v ≤ 255) T.values) (end : ℕ) (step : end ≡ i + min piece (length T.flags - i)) (r : Answered) (m' : List ℕ)
         (post : TakePost p (between i end T) (mid_of at (length b - at) b) r m') where
       here : end ≤ length T.flags
       here = omega (arith, step, h.reach)
@@ -160,12 +160,12 @@ module _ (ω : Opening) (T : Trace) (piece : ℕ) (b₀ : List ℕ) (ok : whole_
       pub close_few : count_in_lem x.answer ≤ 8
       close_few = left_few ω shows.opens T b₀ p at b h size x m' post close-accepts
 
-      pub swept_all : (k : ℕ) → k ≡ count_in_lem x.answer → (r : Swept) → r ≡ record { answer = Accepted (at / record_size + k); totals = x.totals }
+      pub swept_all : (k : ℕ) → k ≡ count_in_lem x.answer → (r : Swept) → r ≡ record { answer = Ok (at / record_size + k); totals = x.totals }
           → ByCallsPost ω T piece b₀ r (put_mid at (length b - at) b m')
       swept_all k e r is =
           let n = ap (λ (j : ℕ). at / record_size + j) e ∙ count-all ω shows.opens T b₀ p at b h size x m' post close-accepts in
           let t = totals_are ω shows.opens T b₀ p at b h size x m' post close-accepts in
-          let s : record { answer = Accepted (at / record_size + k); totals = x.totals } ≡ swept_as accepted T = λ i. record { answer = Accepted (n i); totals = t i } in
+          let s : record { answer = Ok (at / record_size + k); totals = x.totals } ≡ swept_as accepted T = λ i. record { answer = Ok (n i); totals = t i } in
           record {
             result = is ∙ s ∙ ap (λ (v : Answer). swept_as v T) (sym ok);
             buffer = buffer-all ω shows.opens T b₀ p at b h size x m' post close-accepts ∙ ap (λ (v : Answer). buffer_as v T b₀) (sym ok);

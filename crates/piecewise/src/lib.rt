@@ -7,7 +7,7 @@ ghost use Rattle.rules.specs.Calls.{accepted};
 ghost use Rattle.rules.specs.Records.{totals_size};
 ghost use Rattle.rules.specs.Samples.{lent};
 ghost use Rattle.calls.specs.Post.{no_totals_lem};
-ghost use Rattle.calls.specs.declared.Answer.TheVariants.{Refused};
+ghost use Rattle.std.specs.Prelude.{Err};
 ghost use Rattle.whole_refusals.specs.Whole.{whole_answer};
 ghost use Rattle.piecewise.specs.Post.{count_in_lem, Calls, ByCallsPost};
 
@@ -29,17 +29,17 @@ fn count_of(answer: Answer) -> usize
     ensures { result ≡ count_in_lem answer }
 {
     match answer {
-        Answer::Accepted(n) => n,
-        Answer::Refused(_) => 0,
+        Answer::Ok(n) => n,
+        Answer::Err(_) => 0,
     }
 }
 
 // A sweep that is turned down.
 fn turned_down(number: u8) -> Swept
-    ensures { result ≡ record { answer = Refused number; totals = no_totals_lem } }
+    ensures { result ≡ record { answer = Err number; totals = no_totals_lem } }
 {
     Swept {
-        answer: Answer::Refused(number),
+        answer: Answer::Err(number),
         totals: Totals {
             found: 0,
             replies: 0,
@@ -90,7 +90,7 @@ fn accepted_sweep(
     let totals = c.totals;
     let count = at / RECORD + count_of(answer);
     Swept {
-        answer: Answer::Accepted(count),
+        answer: Answer::Ok(count),
         totals,
     }
 }

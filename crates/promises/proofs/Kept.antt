@@ -17,8 +17,8 @@ use Rattle.rules.proofs.ListLaws.{all_map}
 use Rattle.rules.proofs.EdgeSentences.{said-edges}
 use Rattle.rules.proofs.EachReply.{all_facts}
 use Rattle.processor.specs.declared.Processor.{Processor}
-use Rattle.calls.specs.declared.Answer.TheVariants.{Accepted}
-use Rattle.calls.specs.declared.Opened.{Opened}
+use Rattle.std.specs.Prelude.{Ok}
+use Rattle.calls.specs.declared.Answered.{Answered}
 use Rattle.calls.specs.Post.{open_of}
 use Rattle.calls.specs.Whole.{Call, Whole, Begins}
 use Rattle.calls.proofs.Calls.{demand_3, each_one_chain}
@@ -27,8 +27,8 @@ use Rattle.encoder.proofs.RoundTrip.{round_trip}
 use Rattle.promises.specs.Promises.{Run, Exact, Promises}
 use Rattle.promises.proofs.Numbers.{open-numbers, take-three, take-numbers, close-three, close-numbers, whole_numbers}
 
-abbrev opened : Processor → Opened
-opened p = record { answer = Accepted 0; processor = p }
+abbrev opened : Processor → Answered
+opened p = record { answer = Ok 0; processor = p }
 
 begins : (ω : Opening) (p : Processor) → open_of ω ≡ opened p → Begins ω (opened p)
 begins ω p e = record { opened = sym e; count = 0; accepts = refl }

@@ -13,8 +13,8 @@ use Rattle.rules.specs.Samples.{Trace}
 use Rattle.rules.specs.Calls.{Answer, open_answer}
 use Rattle.processor.specs.declared.Processor.{Processor}
 use Rattle.processor.specs.State.{none, running, processor_of, Made}
-use Rattle.calls.specs.declared.Answer.TheVariants.{Refused}
-use Rattle.calls.specs.declared.Taken.{Taken}
+use Rattle.std.specs.Prelude.{Err}
+use Rattle.calls.specs.declared.Answered.{Answered}
 use Rattle.calls.specs.declared.Closed.{Closed}
 use Rattle.calls.specs.Post.{open_as, open_of, take_answer_at, take_as, take_buffer_as, TakePost, close_answer_at, close_as, close_buffer_as, no_totals_lem, ClosePost}
 use Rattle.refusals.specs.Numbers.{answer_numbered}
@@ -45,12 +45,12 @@ one-open e = omega arith
 
 -- ---- take
 
-module _ (p : Processor) (P : Trace) (b : List ℕ) (r : Taken) (b' : List ℕ) (post : TakePost p P b r b') where
+module _ (p : Processor) (P : Trace) (b : List ℕ) (r : Answered) (b' : List ℕ) (post : TakePost p P b r b') where
   pub take-three : Made none p → Turned p P b r b' 3
   unfolding take_answer_at
   take-three m =
       let v : answer_numbered 3 ≡ take_answer_at none P (length b) = take_3 0 0 P (length b) refl in (
-        post.result none m ∙ ap (λ (x : Answer). take_as x none P) (sym v) ∙ ap (λ (q : Processor). record { answer = Refused 3; processor = q }) (sym m.is),
+        post.result none m ∙ ap (λ (x : Answer). take_as x none P) (sym v) ∙ ap (λ (q : Processor). record { answer = Err 3; processor = q }) (sym m.is),
         post.buffer none m ∙ ap (λ (x : Answer). take_buffer_as x none P b) (sym v),
       )
 
@@ -59,7 +59,7 @@ module _ (p : Processor) (P : Trace) (b : List ℕ) (r : Taken) (b' : List ℕ) 
     turned k v = (
       post.result (running ω T) m
           ∙ ap (λ (x : Answer). take_as x (running ω T) P) (sym v)
-          ∙ ap (λ (q : Processor). record { answer = Refused (suc k); processor = q }) (sym m.is),
+          ∙ ap (λ (q : Processor). record { answer = Err (suc k); processor = q }) (sym m.is),
       post.buffer (running ω T) m ∙ ap (λ (x : Answer). take_buffer_as x (running ω T) P b) (sym v),
     )
 
@@ -89,7 +89,7 @@ module _ (p : Processor) (b : List ℕ) (r : Closed) (b' : List ℕ) (post : Clo
   unfolding close_answer_at
   close-three m =
       let v : answer_numbered 3 ≡ close_answer_at none (length b) = close_3 0 (length b) refl in (
-        post.result none m ∙ ap (λ (x : Answer). close_as x none) (sym v) ∙ ap (λ (q : Processor). record { answer = Refused 3; totals = no_totals_lem; processor = q }) (sym m.is),
+        post.result none m ∙ ap (λ (x : Answer). close_as x none) (sym v) ∙ ap (λ (q : Processor). record { answer = Err 3; totals = no_totals_lem; processor = q }) (sym m.is),
         post.buffer none m ∙ ap (λ (x : Answer). close_buffer_as x none b) (sym v),
       )
 
@@ -103,7 +103,7 @@ module _ (p : Processor) (b : List ℕ) (r : Closed) (b' : List ℕ) (post : Clo
               let v : answer_numbered 7 ≡ close_answer_at (running ω T) (length b) = close_7 1 (length b) one-open (omega (arith, h)) in (
                 post.result (running ω T) m
                     ∙ ap (λ (x : Answer). close_as x (running ω T)) (sym v)
-                    ∙ ap (λ (q : Processor). record { answer = Refused 7; totals = no_totals_lem; processor = q }) (sym m.is),
+                    ∙ ap (λ (q : Processor). record { answer = Err 7; totals = no_totals_lem; processor = q }) (sym m.is),
                 post.buffer (running ω T) m ∙ ap (λ (x : Answer). close_buffer_as x (running ω T) b) (sym v),
               );
           accepts =

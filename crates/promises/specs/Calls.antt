@@ -11,17 +11,16 @@ use Rattle.rules.specs.Buffers.{over}
 use Rattle.frames.specs.Writing.{totals_bytes_lem}
 use Rattle.processor.specs.declared.Processor.{Processor}
 use Rattle.processor.specs.State.{idle_processor, running_processor}
-use Rattle.calls.specs.declared.Answer.TheVariants.{Accepted, Refused}
-use Rattle.calls.specs.declared.Opened.{Opened}
-use Rattle.calls.specs.declared.Taken.{Taken}
+use Rattle.std.specs.Prelude.{Ok, Err}
+use Rattle.calls.specs.declared.Answered.{Answered}
 use Rattle.calls.specs.declared.Closed.{Closed}
 
 -- ---- open
 
-pub record OfOpen (ω : Opening) (o : Opened) : Type 0 where
-  pub one : (ω.mode < 1) ⊎ (3 < ω.mode) → o ≡ record { answer = Refused 1; processor = idle_processor }
-  pub two : 1 ≤ ω.mode → ω.mode ≤ 3 → 16383 < ω.azimuth → o ≡ record { answer = Refused 2; processor = idle_processor }
-  pub accepts : 1 ≤ ω.mode → ω.mode ≤ 3 → ω.azimuth ≤ 16383 → o ≡ record { answer = Accepted 0; processor = running_processor ω nothing }
+pub record OfOpen (ω : Opening) (o : Answered) : Type 0 where
+  pub one : (ω.mode < 1) ⊎ (3 < ω.mode) → o ≡ record { answer = Err 1; processor = idle_processor }
+  pub two : 1 ≤ ω.mode → ω.mode ≤ 3 → 16383 < ω.azimuth → o ≡ record { answer = Err 2; processor = idle_processor }
+  pub accepts : 1 ≤ ω.mode → ω.mode ≤ 3 → ω.azimuth ≤ 16383 → o ≡ record { answer = Ok 0; processor = running_processor ω nothing }
 
 -- ---- take
 
@@ -29,10 +28,10 @@ pub record OfOpen (ω : Opening) (o : Opened) : Type 0 where
 abbrev pub bytes_for : ℕ → ℕ
 bytes_for n = 72 * ((n + 205) / 206)
 
-module _ (p : Processor) (P : Trace) (b : List ℕ) (r : Taken) (b' : List ℕ) where
+module _ (p : Processor) (P : Trace) (b : List ℕ) (r : Answered) (b' : List ℕ) where
   -- "A refusal returns its number alone, with the old processor [..] and no write."
   abbrev pub Turned : ℕ → Type 0
-  Turned k = (r ≡ record { answer = Refused k; processor = p }) × (b' ≡ b)
+  Turned k = (r ≡ record { answer = Err k; processor = p }) × (b' ≡ b)
 
   -- a take of P lent b, at a sweep with the trace T
   pub record OfTake (ω : Opening) (T : Trace) : Type 0 where
@@ -45,19 +44,19 @@ module _ (p : Processor) (P : Trace) (b : List ℕ) (r : Taken) (b' : List ℕ) 
         → bytes_for (length P.flags) ≤ length b → any bad P.flags ≡ true → Turned 8
     pub accepts : length P.flags ≡ length P.values → length P.flags ≤ 4096 → length T.flags + length P.flags ≤ 32768
         → bytes_for (length P.flags) ≤ length b → any bad P.flags ≡ false
-        → (r ≡ record { answer = Accepted (length (fresh standard T P)); processor = running_processor ω (T ⧺ P) }) × (b' ≡ over (records (fresh standard T P)) b)
+        → (r ≡ record { answer = Ok (length (fresh standard T P)); processor = running_processor ω (T ⧺ P) }) × (b' ≡ over (records (fresh standard T P)) b)
 
 -- ---- close
 
 module _ (p : Processor) (b : List ℕ) (r : Closed) (b' : List ℕ) where
   abbrev pub TurnedClose : ℕ → Type 0
   TurnedClose k =
-      (r ≡ record { answer = Refused k; totals = record { found = 0; replies = 0; sidelobe = 0; garbled = 0; lost = 0; phantoms = 0 }; processor = p }) × (b' ≡ b)
+      (r ≡ record { answer = Err k; totals = record { found = 0; replies = 0; sidelobe = 0; garbled = 0; lost = 0; phantoms = 0 }; processor = p }) × (b' ≡ b)
 
   pub record OfClose (ω : Opening) (T : Trace) : Type 0 where
     pub seven : length b < 144 → TurnedClose 7
     pub accepts : 144 ≤ length b
-        → (r ≡ record { answer = Accepted (length (rest standard T)); totals = totals (final standard T); processor = idle_processor }) × (b' ≡ over (records (rest standard T)) b)
+        → (r ≡ record { answer = Ok (length (rest standard T)); totals = totals (final standard T); processor = idle_processor }) × (b' ≡ over (records (rest standard T)) b)
 
 -- ---- a whole sweep in one call
 

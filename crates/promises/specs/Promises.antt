@@ -17,8 +17,8 @@ use Rattle.rules.specs.Calls.{handed}
 use Rattle.rules.specs.Examples.{span, nowhere, short, ticks, pulses, framed, printed}
 use Rattle.processor.specs.declared.Processor.{Processor}
 use Rattle.processor.specs.State.{Sweep, none, running, idle_processor, running_processor, Made}
-use Rattle.calls.specs.declared.Answer.TheVariants.{Accepted, Refused}
-use Rattle.calls.specs.declared.Taken.{Taken}
+use Rattle.std.specs.Prelude.{Ok, Err}
+use Rattle.calls.specs.declared.Answered.{Answered}
 use Rattle.calls.specs.declared.Closed.{Closed}
 use Rattle.calls.specs.Post.{open_of, TakePost, ClosePost}
 use Rattle.calls.specs.Whole.{Request, Call, request, Bytes, Chain, last, joined_trace, all_handed_out, all_totals, Judged, answer, after_close}
@@ -51,7 +51,7 @@ counts_of T = totals (final standard T)
 
 -- the calls cs start from the processor of an accepted opening, each gets the processor that the one before left, and each meets its contract
 pub record Run (ω : Opening) (p : Processor) (cs : List Call) : Type 0 where
-  pub opened : open_of ω ≡ record { answer = Accepted 0; processor = p }
+  pub opened : open_of ω ≡ record { answer = Ok 0; processor = p }
   pub chain : Chain p cs
 
 -- ---- reads
@@ -110,8 +110,8 @@ pub record Promises : Type 0 where
   pub printed-totals : counts_of printed ≡ counts 1 1 0 0 0 0
   -- Demands 1 and 2: every call is refused with its number, or returns what the rules give; `open_of`, `TakePost` and `ClosePost` are the contracts
   pub open-numbers : (ω : Opening) → OfOpen ω (open_of ω)
-  pub take_none : (p : Processor) (P : Trace) (b : List ℕ) (r : Taken) (b' : List ℕ) → TakePost p P b r b' → Made none p → Turned p P b r b' 3
-  pub take-numbers : (p : Processor) (P : Trace) (b : List ℕ) (r : Taken) (b' : List ℕ) → TakePost p P b r b' → (ω : Opening) (T : Trace) → Made (running ω T) p → OfTake p P b r b' ω T
+  pub take_none : (p : Processor) (P : Trace) (b : List ℕ) (r : Answered) (b' : List ℕ) → TakePost p P b r b' → Made none p → Turned p P b r b' 3
+  pub take-numbers : (p : Processor) (P : Trace) (b : List ℕ) (r : Answered) (b' : List ℕ) → TakePost p P b r b' → (ω : Opening) (T : Trace) → Made (running ω T) p → OfTake p P b r b' ω T
   pub close-none : (p : Processor) (b : List ℕ) (r : Closed) (b' : List ℕ) → ClosePost p b r b' → Made none p → TurnedClose p b r b' 3
   pub close-numbers : (p : Processor) (b : List ℕ) (r : Closed) (b' : List ℕ) → ClosePost p b r b' → (ω : Opening) (T : Trace) → Made (running ω T) p → OfClose p b r b' ω T
   -- Demand 3, for every list of calls. No close was accepted: the processor and what was handed out are those of the joined trace.
@@ -130,12 +130,12 @@ pub record Promises : Type 0 where
   pub closed-found : (ω : Opening) (p : Processor) (cs : List Call) → Run ω p cs → (x : Totals) (xs : List Totals) → all_totals cs ≡ x ∷ xs
       → x.found ≡ brackets_below (given standard (joined_trace cs)) (length (joined_trace cs).flags)
   pub closed-idle : (ω : Opening) (p : Processor) (cs : List Call) → Run ω p cs → (x : Totals) (xs : List Totals) → all_totals cs ≡ x ∷ xs → last p cs ≡ idle_processor
-  pub later-three : (ω : Opening) (p : Processor) (cs : List Call) → Run ω p cs → All (λ c. answer c ≡ Refused 3) (after_close cs)
+  pub later-three : (ω : Opening) (p : Processor) (cs : List Call) → Run ω p cs → All (λ c. answer c ≡ Err 3) (after_close cs)
   -- Each call was accepted or refused with the first number that holds, and the joined trace has no bad byte.
   pub judged : (ω : Opening) (p : Processor) (cs : List Call) → Run ω p cs → Judged (running ω nothing) cs
   pub good : (ω : Opening) (p : Processor) (cs : List Call) → Run ω p cs → any bad (joined_trace cs).flags ≡ false
   -- For what is lent there is exactly one such list.
-  pub one-run : (ω : Opening) (p : Processor) → open_of ω ≡ record { answer = Accepted 0; processor = p } → (qs : List Request) → All Bytes qs → OneRun p ω qs
+  pub one-run : (ω : Opening) (p : Processor) → open_of ω ≡ record { answer = Ok 0; processor = p } → (qs : List Request) → All Bytes qs → OneRun p ω qs
   -- any cutting of an input into reads
   pub any-cutting : (ts : List Turn) → Scans idle_processor [] ts → Printed ts
   -- a whole sweep in one call; `WholePost` is its contract

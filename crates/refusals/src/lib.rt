@@ -4,14 +4,14 @@
 
 ghost use Rattle.std.specs.Prelude.{◌≡◌, ltb};
 ghost use Rattle.rules.specs.Samples.{lent};
-ghost use Rattle.rules.specs.Calls.{answered, open_answer, take_answer, close_answer, take_room};
+ghost use Rattle.rules.specs.Calls.{answer_from, open_answer, take_answer, close_answer, take_room};
 
 use flags::has_bad;
 use rules::{CLOSE_ROOM, Opening, RECORD, Refusal};
 
 // Open. 1: mode not 1 to 3. 2: azimuth above 16,383.
 pub fn open_refusal(opening: Opening) -> Result<(), Refusal>
-    ensures { answered result ≡ open_answer opening }
+    ensures { answer_from result ≡ open_answer opening }
 {
     if opening.mode < 1 {
         return Err(Refusal::Mode);
@@ -34,8 +34,14 @@ fn room_for(n: u16) -> usize
 
 // Take, where `taken` ticks were taken, with a reply buffer of `room` bytes. 3: no sweep open. 4: flag and value slices differ in length.
 // 5: piece over 4,096. 6: sweep would pass 32,768. 7: reply buffer under 72 x ceil(n/206) bytes. 8: a bad flag byte.
-pub fn take_refusal(mode: u8, taken: u32, flags: &[u8], values: &[u8], room: usize) -> Result<(), Refusal>
-    ensures { answered result ≡ take_answer (ltb 0 mode) taken (lent flags.now values.now) room }
+pub fn take_refusal(
+    mode: u8,
+    taken: u32,
+    flags: &[u8],
+    values: &[u8],
+    room: usize,
+) -> Result<(), Refusal>
+    ensures { answer_from result ≡ take_answer (ltb 0 mode) taken (lent flags.now values.now) room }
 {
     let n = flags.len();
     if mode == 0 {
@@ -61,7 +67,7 @@ pub fn take_refusal(mode: u8, taken: u32, flags: &[u8], values: &[u8], room: usi
 
 // Close, with a reply buffer of `room` bytes. 3: no sweep open. 7: reply buffer under 144 bytes.
 pub fn close_refusal(mode: u8, room: usize) -> Result<(), Refusal>
-    ensures { answered result ≡ close_answer (ltb 0 mode) room }
+    ensures { answer_from result ≡ close_answer (ltb 0 mode) room }
 {
     if mode == 0 {
         return Err(Refusal::NotOpen);

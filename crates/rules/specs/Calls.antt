@@ -30,9 +30,9 @@ pub data Answer : Type 0 where
   refused : Refusal → Answer
 
 -- the same, as the code answers it
-abbrev pub answered : Result Unit Refusal → Answer
-answered (Ok _) = accepted
-answered (Err r) = refused r
+abbrev pub answer_from : Result Unit Refusal → Answer
+answer_from (Ok _) = accepted
+answer_from (Err r) = refused r
 
 -- a refusal, and whether it holds
 pub record Check : Type 0 where

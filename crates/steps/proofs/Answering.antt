@@ -19,17 +19,16 @@ use Rattle.rules.specs.Records.{records, record_size}
 use Rattle.rules.specs.Calls.{Answer as RulesAnswer, accepted, refused, open_answer, close_room, most_left}
 use Rattle.rules.proofs.Buffers.{over-at-nil, over-at-next}
 use Rattle.rules.proofs.HandingOut.{fresh-most, rest-most}
-use Rattle.calls.specs.declared.Answer.{Answer}
-use Rattle.calls.specs.declared.Answer.TheVariants.{Accepted, Refused}
+use Rattle.calls.specs.Answers.{Answer}
+use Rattle.std.specs.Prelude.{Ok, Err}
 use Rattle.processor.specs.declared.Processor.{Processor}
-use Rattle.calls.specs.declared.Opened.{Opened}
-use Rattle.calls.specs.declared.Taken.{Taken}
+use Rattle.calls.specs.declared.Answered.{Answered}
 use Rattle.calls.specs.declared.Closed.{Closed}
 use Rattle.processor.specs.State.{Sweep, none, running, processor_of, running_processor, Made}
 use Rattle.calls.specs.Post.{open_as, open_of, longer, handed_out, count_of, take_answer_at, take_as, take_buffer_as, TakePost, close_answer_at, left_over, left_count, totals_of_lem, close_as, close_buffer_as, ClosePost}
 use Rattle.rules.proofs.Answers.{standard_allowed}
 use Rattle.reading.specs.declared.Line.{Line}
-use Rattle.reading.specs.declared.Line.TheVariants.{Frame as Framed, Refused as Unread}
+use Rattle.reading.specs.declared.Line.TheVariants.{Frame as Framed, Err as Unread}
 use Rattle.reading.specs.declared.Frame.{Frame}
 use Rattle.reading.specs.declared.Frame.TheVariants.{Samples}
 use Rattle.frames.specs.Writing.{reply_lines_lem, first_lines, totals_line_lem, refusal_line_lem, reply_line_size}
@@ -48,23 +47,23 @@ use Rattle.steps.specs.Post.{stepped_by, has_room_lem, stepped_as, output_as, St
 -- ---- answers taken apart
 
 is_refused : Answer → Bool
-is_refused (Accepted n) = false
-is_refused (Refused k) = true
+is_refused (Ok n) = false
+is_refused (Err k) = true
 
 number_in : Answer → ℕ
-number_in (Accepted n) = 0
-number_in (Refused k) = k
+number_in (Ok n) = 0
+number_in (Err k) = k
 
 count_of_answer : Answer → ℕ
-count_of_answer (Accepted n) = n
-count_of_answer (Refused k) = 0
+count_of_answer (Ok n) = n
+count_of_answer (Err k) = 0
 
 -- the answer of the operations, with the count n of an accepted call
 answered : RulesAnswer → ℕ → Answer
-answered accepted n = Accepted n
-answered (refused k) n = Refused k.number
+answered accepted n = Ok n
+answered (refused k) n = Err k
 
-refused-is : (v : RulesAnswer) (n : ℕ) (x : Answer) (k : ℕ) → x ≡ answered v n → x ≡ Refused k → v ≡ refused (record { number = k })
+refused-is : (v : RulesAnswer) (n : ℕ) (x : Answer) (k : ℕ) → x ≡ answered v n → x ≡ Err k → v ≡ refused k
 unfolding answered is_refused number_in
 refused-is accepted n x k e r = absurd (true≢false (ap is_refused (sym r ∙ e)))
 refused-is (refused j) n x k e r = ap (λ (m : ℕ). refused (record { number = m })) (ap number_in (sym e ∙ r))
@@ -73,7 +72,7 @@ record Accepts (v : RulesAnswer) (n m : ℕ) : Type 0 where
   is-accepted : v ≡ accepted
   count : m ≡ n
 
-accepted-is : (v : RulesAnswer) (n : ℕ) (x : Answer) (m : ℕ) → x ≡ answered v n → x ≡ Accepted m → Accepts v n m
+accepted-is : (v : RulesAnswer) (n : ℕ) (x : Answer) (m : ℕ) → x ≡ answered v n → x ≡ Ok m → Accepts v n m
 unfolding answered is_refused count_of_answer
 accepted-is accepted n x m e r = record { is-accepted = refl; count = ap count_of_answer (sym r ∙ e) }
 accepted-is (refused j) n x m e r = absurd (true≢false (ap is_refused (sym e ∙ r)))
@@ -138,7 +137,7 @@ module _ (p : Processor) (at : ℕ) (b : List ℕ) where
 
   -- ---- a piece, lent a buffer of so many bytes, enough for all its replies
 
-  module _ (P : Trace) (bytes : ℕ) (few : (σ : Sweep) → record_size * length (fresh_of σ P) ≤ bytes) (h₀ h : List ℕ) (lent : length h₀ ≡ bytes) (t : Taken) (post : TakePost p P h₀ t h) where
+  module _ (P : Trace) (bytes : ℕ) (few : (σ : Sweep) → record_size * length (fresh_of σ P) ≤ bytes) (h₀ h : List ℕ) (lent : length h₀ ≡ bytes) (t : Answered) (post : TakePost p P h₀ t h) where
     count-fresh : (σ : Sweep) → count_of σ P ≡ length (fresh_of σ P)
     count-fresh none = refl
     count-fresh (running ω T) = refl
@@ -157,18 +156,18 @@ module _ (p : Processor) (at : ℕ) (b : List ℕ) where
     take-answer σ (refused k) = refl
 
     answer-of : (σ : Sweep) → Made σ p → t.answer ≡ answered (take_answer_at σ P bytes) (count_of σ P)
-    answer-of σ m = ap (λ (x : Taken). x.answer) (take-is σ m) ∙ take-answer σ (take_answer_at σ P bytes)
+    answer-of σ m = ap (λ (x : Answered). x.answer) (take-is σ m) ∙ take-answer σ (take_answer_at σ P bytes)
 
     -- it was refused
-    module _ (k : ℕ) (e : t.answer ≡ Refused k) (σ : Sweep) (m : Made σ p) where
-      pub turned_down : take_answer_at σ P bytes ≡ refused (record { number = k })
+    module _ (k : ℕ) (e : t.answer ≡ Err k) (σ : Sweep) (m : Made σ p) where
+      pub turned_down : take_answer_at σ P bytes ≡ refused k
       turned_down = refused-is (take_answer_at σ P bytes) (count_of σ P) t.answer k (answer-of σ m) e
 
       pub given_back : t.processor ≡ p
-      given_back = ap (λ (x : Taken). x.processor) (take-is σ m) ∙ ap (λ (v : RulesAnswer). (take_as v σ P).processor) turned_down ∙ sym m.is
+      given_back = ap (λ (x : Answered). x.processor) (take-is σ m) ∙ ap (λ (v : RulesAnswer). (take_as v σ P).processor) turned_down ∙ sym m.is
 
     -- it was accepted, and its replies were written
-    module _ (n : ℕ) (q : t.answer ≡ Accepted n) (σ : Sweep) (m : Made σ p) where
+    module _ (n : ℕ) (q : t.answer ≡ Ok n) (σ : Sweep) (m : Made σ p) where
       acc : Accepts (take_answer_at σ P bytes) (count_of σ P) n
       acc = accepted-is (take_answer_at σ P bytes) (count_of σ P) t.answer n (answer-of σ m) q
 
@@ -176,7 +175,7 @@ module _ (p : Processor) (at : ℕ) (b : List ℕ) where
       was_accepted = acc.is-accepted
 
       pub went_on : t.processor ≡ processor_of (longer σ P)
-      went_on = ap (λ (x : Taken). x.processor) (take-is σ m) ∙ ap (λ (v : RulesAnswer). (take_as v σ P).processor) acc.is-accepted
+      went_on = ap (λ (x : Answered). x.processor) (take-is σ m) ∙ ap (λ (v : RulesAnswer). (take_as v σ P).processor) acc.is-accepted
 
       left : h ≡ over (records (fresh_of σ P)) h₀
       left =
@@ -200,7 +199,7 @@ module _ (p : Processor) (at : ℕ) (b : List ℕ) where
 
     -- ---- opening
 
-    module _ (ω : Opening) (o : Opened) (is : o ≡ open_of ω) where
+    module _ (ω : Opening) (o : Answered) (is : o ≡ open_of ω) where
       open-answer : (v : RulesAnswer) → (open_as v ω).answer ≡ answered v 0
       unfolding answered
       open-answer accepted = refl
@@ -208,21 +207,21 @@ module _ (p : Processor) (at : ℕ) (b : List ℕ) where
 
       answer-is : o.answer ≡ answered (open_answer ω) 0
       unfolding open_of
-      answer-is = ap (λ (x : Opened). x.answer) is ∙ open-answer (open_answer ω)
+      answer-is = ap (λ (x : Answered). x.answer) is ∙ open-answer (open_answer ω)
 
-      pub open-refused : (k : ℕ) → o.answer ≡ Refused k → (r : Stepped) (b' : List ℕ) → AnswerPost (λ σ. stops k) p at b r b'
+      pub open-refused : (k : ℕ) → o.answer ≡ Err k → (r : Stepped) (b' : List ℕ) → AnswerPost (λ σ. stops k) p at b r b'
           → AnswerPost (opened_at ω) p at b r b'
       open-refused k e r b' c =
           outcome_as (opened_at ω) (λ σ. stops k) r b'
           (λ σ m. ap (λ (v : RulesAnswer). opened_as v ω) (refused-is (open_answer ω) 0 o.answer k answer-is e)) c
 
-      pub open-accepted : (n : ℕ) → o.answer ≡ Accepted n
+      pub open-accepted : (n : ℕ) → o.answer ≡ Ok n
           → AnswerPost (opened_at ω) p at b (record { step = Goes at; processor = o.processor }) b
       unfolding open_of processor_of
       open-accepted n e =
           let a = accepted-is (open_answer ω) 0 o.answer n answer-is e in
           let q : o.processor ≡ running_processor ω nothing =
-          ap (λ (x : Opened). x.processor) is ∙ ap (λ (v : RulesAnswer). (open_as v ω).processor) a.is-accepted in
+          ap (λ (x : Answered). x.processor) is ∙ ap (λ (v : RulesAnswer). (open_as v ω).processor) a.is-accepted in
           record {
             inside = omega arith;
             result = λ σ m.
@@ -233,19 +232,19 @@ module _ (p : Processor) (at : ℕ) (b : List ℕ) where
 
     -- ---- a piece of at most 64 ticks
 
-    module _ (P : Trace) (small : length P.flags ≤ 64) (h₀ h : List ℕ) (lent : length h₀ ≡ line_room) (t : Taken) (post : TakePost p P h₀ t h) where
+    module _ (P : Trace) (small : length P.flags ≤ 64) (h₀ h : List ℕ) (lent : length h₀ ≡ line_room) (t : Answered) (post : TakePost p P h₀ t h) where
       fresh_few : (σ : Sweep) → record_size * length (fresh_of σ P) ≤ line_room
       fresh_few none = omega arith
       fresh_few (running ω T) = omega (arith, fresh-most standard T P)
 
-      pub take-refused : (k : ℕ) → t.answer ≡ Refused k → (r : Stepped) (b' : List ℕ) → AnswerPost (λ σ. stops k) t.processor at b r b'
+      pub take-refused : (k : ℕ) → t.answer ≡ Err k → (r : Stepped) (b' : List ℕ) → AnswerPost (λ σ. stops k) t.processor at b r b'
           → AnswerPost (taken_at P) p at b r b'
       take-refused k e r b' c =
           outcome_as (taken_at P) (λ σ. stops k) r b'
           (λ σ m. ap (λ (v : RulesAnswer). taken_as v σ P) (turned_down P line_room fresh_few h₀ h lent t post k e σ m))
           (stop-same t.processor k r b' (λ σ m. given_back P line_room fresh_few h₀ h lent t post k e σ m) c)
 
-      pub take-accepted : (n : ℕ) → t.answer ≡ Accepted n → (e : ℕ) (b' : List ℕ) → WritePost (first_lines n h) at b e b'
+      pub take-accepted : (n : ℕ) → t.answer ≡ Ok n → (e : ℕ) (b' : List ℕ) → WritePost (first_lines n h) at b e b'
           → AnswerPost (taken_at P) p at b (record { step = Goes e; processor = t.processor }) b'
       take-accepted n q e b' w =
           record {
@@ -286,17 +285,17 @@ module _ (p : Processor) (at : ℕ) (b : List ℕ) where
       close-answer σ accepted = refl
       close-answer σ (refused k) = refl
 
-      pub close-refused : (k : ℕ) → t.answer ≡ Refused k → (r : Stepped) (b' : List ℕ) → AnswerPost (λ σ. stops k) t.processor at b r b'
+      pub close-refused : (k : ℕ) → t.answer ≡ Err k → (r : Stepped) (b' : List ℕ) → AnswerPost (λ σ. stops k) t.processor at b r b'
           → AnswerPost closed_at p at b r b'
       close-refused k e r b' c =
           outcome_as closed_at (λ σ. stops k) r b' (λ σ m. ap (λ (v : RulesAnswer). closed_as v σ) (is-refused σ m))
           (stop-same t.processor k r b'
           (λ σ m. ap (λ (x : Closed). x.processor) (close-is σ m) ∙ ap (λ (v : RulesAnswer). (close_as v σ).processor) (is-refused σ m) ∙ sym m.is) c)
         where
-          is-refused : (σ : Sweep) → Made σ p → close_answer_at σ close_room ≡ refused (record { number = k })
+          is-refused : (σ : Sweep) → Made σ p → close_answer_at σ close_room ≡ refused k
           is-refused σ m = refused-is (close_answer_at σ close_room) (left_count σ) t.answer k (ap (λ (x : Closed). x.answer) (close-is σ m) ∙ close-answer σ (close_answer_at σ close_room)) e
 
-      pub close-accepted : (n : ℕ) → t.answer ≡ Accepted n → (e f : ℕ) (b₁ b' : List ℕ)
+      pub close-accepted : (n : ℕ) → t.answer ≡ Ok n → (e f : ℕ) (b₁ b' : List ℕ)
           → WritePost (first_lines n h) at b e b₁ → WritePost (totals_line_lem t.totals) e b₁ f b'
           → AnswerPost closed_at p at b (record { step = Goes f; processor = t.processor }) b'
       unfolding processor_of
@@ -345,15 +344,15 @@ module _ (p : Processor) (at : ℕ) (b : List ℕ) where
 -- ---- what was printed beside an answer
 
 module _ (p : Processor) (at : ℕ) (b : List ℕ) (room : at + line_most ≤ length b) where
-  pub take_step : (P : Trace) → length P.flags ≤ 64 → (h₀ h : List ℕ) → length h₀ ≡ line_room → (t : Taken) → TakePost p P h₀ t h → (s : Step) (b' : List ℕ) → TakeShown t.answer h at b s b'
+  pub take_step : (P : Trace) → length P.flags ≤ 64 → (h₀ h : List ℕ) → length h₀ ≡ line_room → (t : Answered) → TakePost p P h₀ t h → (s : Step) (b' : List ℕ) → TakeShown t.answer h at b s b'
       → AnswerPost (taken_at P) p at b (record { step = s; processor = t.processor }) b'
   take_step P small h₀ h lent t post s b' w =
       subst (λ (x : Step). AnswerPost (taken_at P) p at b (record { step = x; processor = t.processor }) b') (sym w.step) (go t.answer refl w.prints)
     where
       go : (a : Answer) → t.answer ≡ a → TakePrints a h at b w.place b'
           → AnswerPost (taken_at P) p at b (record { step = step_of a w.place; processor = t.processor }) b'
-      go (Accepted n) e q = take-accepted p at b room P small h₀ h lent t post n e w.place b' q
-      go (Refused k) e q =
+      go (Ok n) e q = take-accepted p at b room P small h₀ h lent t post n e w.place b' q
+      go (Err k) e q =
           take-refused p at b room P small h₀ h lent t post k e (record { step = Stops k w.place; processor = t.processor }) b'
           (stop_post t.processor at b room k w.place b' q)
 
@@ -364,23 +363,23 @@ module _ (p : Processor) (at : ℕ) (b : List ℕ) (room : at + line_most ≤ le
     where
       go : (a : Answer) → t.answer ≡ a → ClosePrints a t.totals h at b w.place b'
           → AnswerPost closed_at p at b (record { step = step_of a w.place; processor = t.processor }) b'
-      go (Accepted n) e q = close-accepted p at b room h₀ h lent t post n e q.middle w.place q.between b' q.first q.then-totals
-      go (Refused k) e q =
+      go (Ok n) e q = close-accepted p at b room h₀ h lent t post n e q.middle w.place q.between b' q.first q.then-totals
+      go (Err k) e q =
           close-refused p at b room h₀ h lent t post k e (record { step = Stops k w.place; processor = t.processor }) b'
           (stop_post t.processor at b room k w.place b' q)
 
 -- what was printed for each answer
-pub take-refusal : (a : Answer) (k : ℕ) → a ≡ Refused k → (h : List ℕ) (at : ℕ) (b : List ℕ) (e : ℕ) (b' : List ℕ) → WritePost (refusal_line_lem k) at b e b' → TakeShown a h at b (Stops k e) b'
+pub take-refusal : (a : Answer) (k : ℕ) → a ≡ Err k → (h : List ℕ) (at : ℕ) (b : List ℕ) (e : ℕ) (b' : List ℕ) → WritePost (refusal_line_lem k) at b e b' → TakeShown a h at b (Stops k e) b'
 take-refusal a k q h at b e b' w = subst (λ (x : Answer). TakeShown x h at b (Stops k e) b') (sym q) (record { place = e; step = refl; prints = w })
 
-pub take-replies : (a : Answer) (n : ℕ) → a ≡ Accepted n → (h : List ℕ) (at : ℕ) (b : List ℕ) (e : ℕ) (b' : List ℕ) → WritePost (first_lines n h) at b e b' → TakeShown a h at b (Goes e) b'
+pub take-replies : (a : Answer) (n : ℕ) → a ≡ Ok n → (h : List ℕ) (at : ℕ) (b : List ℕ) (e : ℕ) (b' : List ℕ) → WritePost (first_lines n h) at b e b' → TakeShown a h at b (Goes e) b'
 take-replies a n q h at b e b' w = subst (λ (x : Answer). TakeShown x h at b (Goes e) b') (sym q) (record { place = e; step = refl; prints = w })
 
-pub close-refusal : (a : Answer) (k : ℕ) → a ≡ Refused k → (x : Totals) (h : List ℕ) (at : ℕ) (b : List ℕ) (e : ℕ) (b' : List ℕ) → WritePost (refusal_line_lem k) at b e b'
+pub close-refusal : (a : Answer) (k : ℕ) → a ≡ Err k → (x : Totals) (h : List ℕ) (at : ℕ) (b : List ℕ) (e : ℕ) (b' : List ℕ) → WritePost (refusal_line_lem k) at b e b'
     → CloseShown a x h at b (Stops k e) b'
 close-refusal a k q x h at b e b' w = subst (λ (y : Answer). CloseShown y x h at b (Stops k e) b') (sym q) (record { place = e; step = refl; prints = w })
 
-pub close-replies : (a : Answer) (n : ℕ) → a ≡ Accepted n → (x : Totals) (h : List ℕ) (at : ℕ) (b : List ℕ) (m : ℕ) (b₁ : List ℕ) (e : ℕ) (b' : List ℕ)
+pub close-replies : (a : Answer) (n : ℕ) → a ≡ Ok n → (x : Totals) (h : List ℕ) (at : ℕ) (b : List ℕ) (m : ℕ) (b₁ : List ℕ) (e : ℕ) (b' : List ℕ)
     → WritePost (first_lines n h) at b m b₁ → WritePost (totals_line_lem x) m b₁ e b' → CloseShown a x h at b (Goes e) b'
 close-replies a n q x h at b m b₁ e b' w v =
     subst (λ (y : Answer). CloseShown y x h at b (Goes e) b') (sym q) (record { place = e; step = refl; prints = record { middle = m; between = b₁; first = w; then-totals = v } })

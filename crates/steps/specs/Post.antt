@@ -12,8 +12,8 @@ use Rattle.reading.specs.declared.Frame.TheVariants.{Open, Samples, Close}
 use Rattle.frames.specs.Writing.{first_lines, totals_line_lem, refusal_line_lem, reply_line_size, totals_line_size}
 use Rattle.frames.specs.Post.{WritePost}
 use Rattle.rules.specs.declared.Totals.{Totals}
-use Rattle.calls.specs.declared.Answer.{Answer}
-use Rattle.calls.specs.declared.Answer.TheVariants.{Accepted, Refused as Turned}
+use Rattle.calls.specs.Answers.{Answer}
+use Rattle.std.specs.Prelude.{Ok, Err}
 use Rattle.ends.specs.Ends.{LinePast}
 use Rattle.steps.specs.declared.Step.{Step}
 use Rattle.steps.specs.declared.Step.TheVariants.{Goes, Stops, Full}
@@ -64,13 +64,13 @@ pub record AnswerPost (o : Sweep → Outcome) (p : Processor) (at : ℕ) (b : Li
 
 -- the step of an answer whose lines end at place e
 abbrev pub step_of : Answer → ℕ → Step
-step_of (Accepted n) e = Goes e
-step_of (Turned k) e = Stops k e
+step_of (Ok n) e = Goes e
+step_of (Err k) e = Stops k e
 
 -- for every answer, what is written from place at on, up to place e: the refusal, or the replies
 abbrev pub TakePrints : Answer → List ℕ → ℕ → List ℕ → ℕ → List ℕ → Type 0
-TakePrints (Accepted n) h at b e b' = WritePost (first_lines n h) at b e b'
-TakePrints (Turned k) h at b e b' = WritePost (refusal_line_lem k) at b e b'
+TakePrints (Ok n) h at b e b' = WritePost (first_lines n h) at b e b'
+TakePrints (Err k) h at b e b' = WritePost (refusal_line_lem k) at b e b'
 
 pub record TakeShown (a : Answer) (h : List ℕ) (at : ℕ) (b : List ℕ) (r : Step) (b' : List ℕ) : Type 0 where
   pub place : ℕ
@@ -85,8 +85,8 @@ pub record RepliesThenTotals (n : ℕ) (x : Totals) (h : List ℕ) (at : ℕ) (b
   pub then-totals : WritePost (totals_line_lem x) middle between e b'
 
 abbrev pub ClosePrints : Answer → Totals → List ℕ → ℕ → List ℕ → ℕ → List ℕ → Type 0
-ClosePrints (Accepted n) x h at b e b' = RepliesThenTotals n x h at b e b'
-ClosePrints (Turned k) x h at b e b' = WritePost (refusal_line_lem k) at b e b'
+ClosePrints (Ok n) x h at b e b' = RepliesThenTotals n x h at b e b'
+ClosePrints (Err k) x h at b e b' = WritePost (refusal_line_lem k) at b e b'
 
 pub record CloseShown (a : Answer) (x : Totals) (h : List ℕ) (at : ℕ) (b : List ℕ) (r : Step) (b' : List ℕ) : Type 0 where
   pub place : ℕ

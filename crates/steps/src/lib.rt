@@ -34,11 +34,11 @@ pub fn show_take(answer: Answer, handed: &[u8], out: &mut [u8], at: usize) -> St
     ensures { TakeShown answer handed.now at out.old result out.new }
 {
     match answer {
-        Answer::Refused(number) => {
+        Err(number) => {
             let end = refusal_line(number, out, at);
             Step::Stops(number, end)
         }
-        Answer::Accepted(count) => {
+        Ok(count) => {
             let end = reply_lines(handed, count, out, at);
             Step::Goes(end)
         }
@@ -50,11 +50,11 @@ pub fn show_close(answer: Answer, totals: Totals, handed: &[u8], out: &mut [u8],
     ensures { CloseShown answer totals handed.now at out.old result out.new }
 {
     match answer {
-        Answer::Refused(number) => {
+        Err(number) => {
             let end = refusal_line(number, out, at);
             Step::Stops(number, end)
         }
-        Answer::Accepted(count) => {
+        Ok(count) => {
             let place = reply_lines(handed, count, out, at);
             let end = totals_line(totals, out, place);
             Step::Goes(end)

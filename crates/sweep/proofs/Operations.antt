@@ -16,12 +16,13 @@ use Rattle.rules.specs.Lists.{All}
 use Rattle.rules.specs.Samples.{Trace, ◌⧺◌, sweep_limit}
 use Rattle.rules.specs.Machine.{given, final, State, after}
 use Rattle.rules.specs.Records.{record_size, records, totals}
-use Rattle.rules.specs.Calls.{Refusal, Answer as RulesAnswer, accepted, refused, take_answer, close_answer, fresh, rest, silence}
+use Rattle.rules.specs.declared.Refusal.{Refusal}
+use Rattle.rules.specs.Calls.{Answer as RulesAnswer, accepted, refused, take_answer, close_answer, fresh, rest, silence}
 use Rattle.rules.proofs.PastEnd.{rest-silence, past_end, after-silence}
 use Rattle.rules.specs.Buffers.{over, over-at}
-use Rattle.calls.specs.declared.Answer.TheVariants.{Accepted, Refused}
+use Rattle.std.specs.Prelude.{Ok, Err}
 use Rattle.processor.specs.declared.Processor.{Processor}
-use Rattle.calls.specs.declared.Taken.{Taken}
+use Rattle.calls.specs.declared.Answered.{Answered}
 use Rattle.calls.specs.declared.Closed.{Closed}
 use Rattle.processor.specs.declared.Progress.{Progress}
 use Rattle.processor.specs.State.{Sweep, none, running, idle_processor, running_processor, processor_of, Within, Made}
@@ -83,11 +84,11 @@ take-answer-at p P room (running ω T) m =
     ∙ ap (λ (x : Bool). take_answer x p.taken P room) (sym (mode_running p ω T m))
 
 -- a take that is turned down
-pub take_no : (p : Processor) (P : Trace) (b : List ℕ) (k : Refusal) (r : Taken) → take_answer (ltb 0 p.opening.mode) p.taken P (length b) ≡ refused k
-    → r ≡ record { answer = Refused k.number; processor = p } → TakePost p P b r b
+pub take_no : (p : Processor) (P : Trace) (b : List ℕ) (k : Refusal) (r : Answered) → take_answer (ltb 0 p.opening.mode) p.taken P (length b) ≡ refused k
+    → r ≡ record { answer = Err k; processor = p } → TakePost p P b r b
 take_no p P b k r e q =
     record {
-      result = λ σ m. q ∙ ap (λ (x : Processor). record { answer = Refused k.number; processor = x }) m.is ∙ sym (ap (λ (v : RulesAnswer). take_as v σ P) (is-refused σ m));
+      result = λ σ m. q ∙ ap (λ (x : Processor). record { answer = Err k; processor = x }) m.is ∙ sym (ap (λ (v : RulesAnswer). take_as v σ P) (is-refused σ m));
       buffer = λ σ m. sym (ap (λ (v : RulesAnswer). take_buffer_as v σ P b) (is-refused σ m));
     }
   where
@@ -95,7 +96,7 @@ take_no p P b k r e q =
     is-refused σ m = take-answer-at p P (length b) σ m ∙ e
 
 -- a take that is not
-pub take-yes : (p : Processor) (P : Trace) (b : List ℕ) (r : Taken) (b' : List ℕ) → take_answer (ltb 0 p.opening.mode) p.taken P (length b) ≡ accepted → TakenPiece p P b r b'
+pub take-yes : (p : Processor) (P : Trace) (b : List ℕ) (r : Answered) (b' : List ℕ) → take_answer (ltb 0 p.opening.mode) p.taken P (length b) ≡ accepted → TakenPiece p P b r b'
     → TakePost p P b r b'
 take-yes p P b r b' e t =
     record {
@@ -129,10 +130,10 @@ bytes-all (v ∷ l) h = (omega (arith, h 0), bytes-all l (λ i. h (suc i)))
 module _ (p : Processor) (P : Trace) (b : List ℕ) (limit : p.taken + length P.flags ≤ sweep_limit) (bytes : (i : ℕ) → get_or P.values i 0 < 256)
     (o y : Progress) (b' recent' : List ℕ) (oe : o ≡ progress_of_lem p)
     (fd : BlocksPost o p.recent p.taken P.flags P.values b y b') (kp : KeepPost p.recent P.values recent') where
-  abbrev result : Taken
+  abbrev result : Answered
   result =
       record {
-        answer = Accepted (y.at / record_size);
+        answer = Ok (y.at / record_size);
         processor = record { opening = p.opening; taken = p.taken + length P.flags; front = y.front; recent = recent'; places = listed (four y.places); counts = y.counts };
       }
 
@@ -156,7 +157,7 @@ module _ (p : Processor) (P : Trace) (b : List ℕ) (limit : p.taken + length P.
           room = room;
         }))
 
-    took_it : result ≡ record { answer = Accepted (length (fresh standard T P)); processor = running_processor ω (T ⧺ P) }
+    took_it : result ≡ record { answer = Ok (length (fresh standard T P)); processor = running_processor ω (T ⧺ P) }
     unfolding running_processor
     took_it =
         let c = records-of y.at (length (fresh standard T P)) fed.place in
@@ -165,9 +166,9 @@ module _ (p : Processor) (P : Trace) (b : List ℕ) (limit : p.taken + length P.
         let e4 = fed.front in
         let e5 = kp.result T.values (recent-of ω T p is) in
         let e6 = fed.machine in
-        λ i. record { answer = Accepted (c i); processor = record { opening = e1 i; taken = e3 i; front = e4 i; recent = e5 i; places = listed (e6 i).places; counts = (e6 i).counts } }
+        λ i. record { answer = Ok (c i); processor = record { opening = e1 i; taken = e3 i; front = e4 i; recent = e5 i; places = listed (e6 i).places; counts = (e6 i).counts } }
 
-  pub take_done : (r : Taken) → r ≡ result → TakenPiece p P b r b'
+  pub take_done : (r : Answered) → r ≡ result → TakenPiece p P b r b'
   unfolding processor_of
   take_done r e =
       record {
@@ -187,11 +188,11 @@ close-answer-at p room (running ω T) m = ap (λ (x : Bool). close_answer x room
 
 -- a close that is turned down
 pub close-no : (p : Processor) (b : List ℕ) (k : Refusal) (r : Closed) → close_answer (ltb 0 p.opening.mode) (length b) ≡ refused k
-    → r ≡ record { answer = Refused k.number; totals = no_totals_lem; processor = p } → ClosePost p b r b
+    → r ≡ record { answer = Err k; totals = no_totals_lem; processor = p } → ClosePost p b r b
 close-no p b k r e q =
     record {
       result =
-          λ σ m. q ∙ ap (λ (x : Processor). record { answer = Refused k.number; totals = no_totals_lem; processor = x }) m.is ∙ sym (ap (λ (v : RulesAnswer). close_as v σ) (is-refused σ m));
+          λ σ m. q ∙ ap (λ (x : Processor). record { answer = Err k; totals = no_totals_lem; processor = x }) m.is ∙ sym (ap (λ (v : RulesAnswer). close_as v σ) (is-refused σ m));
       buffer = λ σ m. sym (ap (λ (v : RulesAnswer). close_buffer_as v σ b) (is-refused σ m));
     }
   where
@@ -217,7 +218,7 @@ close-yes p b r b' e t =
 module _ (p : Processor) (b : List ℕ) (base : ℕ) (eb : p.taken ≤ sweep_limit → base ≡ p.taken) (o y : Progress) (b' : List ℕ) (oe : o ≡ progress_of_lem p)
     (dr : DrainPost o p.recent base b y b') where
   abbrev closed_result : Closed
-  closed_result = record { answer = Accepted (y.at / record_size); totals = totals_from y.counts; processor = idle_processor }
+  closed_result = record { answer = Ok (y.at / record_size); totals = totals_from y.counts; processor = idle_processor }
 
   module _ (ω : Opening) (T : Trace) (is : p ≡ running_processor ω T) (w : Within ω T) (room : record_size * length (rest standard T) ≤ length b) where
     drained : Fed T (silence 448) b y b'
@@ -240,12 +241,12 @@ module _ (p : Processor) (b : List ℕ) (base : ℕ) (eb : p.taken ≤ sweep_lim
     left : fresh standard T (silence 448) ≡ rest standard T
     left = rest-silence standard standard_allowed T 448 (omega arith)
 
-    closed_it : closed_result ≡ record { answer = Accepted (length (rest standard T)); totals = totals (final standard T); processor = idle_processor }
+    closed_it : closed_result ≡ record { answer = Ok (length (rest standard T)); totals = totals (final standard T); processor = idle_processor }
     closed_it =
         let d = drained in
         let c = records-of y.at (length (rest standard T)) (d.place ∙ ap (λ (l : List Reply). record_size * length l) left) in
         let t = ap (λ (z : Machine). totals_from z.counts) d.machine ∙ totals_law T in
-        λ i. record { answer = Accepted (c i); totals = t i; processor = idle_processor }
+        λ i. record { answer = Ok (c i); totals = t i; processor = idle_processor }
 
   pub close-done : (r : Closed) → r ≡ closed_result → ClosedOpen p b r b'
   unfolding processor_of

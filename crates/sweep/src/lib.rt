@@ -6,7 +6,7 @@ ghost use Rattle.std.specs.Prelude.{◌+◌, ◌≤◌, ◌≡◌, length};
 ghost use Rattle.rules.specs.Samples.{lent, sweep_limit};
 ghost use Rattle.calls.specs.Post.{open_of, TakePost, TakenPiece, ClosePost, ClosedOpen};
 
-use calls::{Answer, Closed, Opened, Taken, closed_after, no_close, no_take, opened_with};
+use calls::{Answer, Closed, Answered, Answered, closed_after, no_close, no_take, opened_with};
 use front::values::keep;
 use machine::work;
 use pieces::drain;
@@ -15,7 +15,7 @@ use refusals::{close_refusal, open_refusal, take_refusal};
 use rules::{Opening, RECORD};
 
 // Opens a sweep. 1: mode not 1 to 3. 2: azimuth above 16,383. The processor of a refused opening is the idle one.
-pub fn open(opening: Opening) -> Opened
+pub fn open(opening: Opening) -> Answered
     ensures { result ≡ open_of opening }
 {
     let number = open_refusal(opening);
@@ -24,13 +24,13 @@ pub fn open(opening: Opening) -> Opened
             mode: 0,
             azimuth: 0,
         };
-        return opened_with(Answer::Refused(number), none);
+        return opened_with(Err(number), none);
     }
-    opened_with(Answer::Accepted(0), opening)
+    opened_with(Ok(0), opening)
 }
 
 // A take that is carried out. It asks for no more room than for the records that it writes.
-fn take_piece(p: Processor, flags: &[u8], values: &[u8], out: &mut [u8]) -> Taken
+fn take_piece(p: Processor, flags: &[u8], values: &[u8], out: &mut [u8]) -> Answered
     requires { p.taken + length flags.now ≤ sweep_limit }
     ensures { TakenPiece p (lent flags.now values.now) out.old result out.new }
 {
@@ -38,15 +38,15 @@ fn take_piece(p: Processor, flags: &[u8], values: &[u8], out: &mut [u8]) -> Take
     let y = work(progress_of(p), &recent, p.taken, flags, values, out);
     keep(&mut recent, values);
     let taken = p.taken + flags.len() as u32;
-    Taken {
-        answer: Answer::Accepted(y.at / RECORD),
+    Answered {
+        answer: Ok(y.at / RECORD),
         processor: moved(p, y, recent, taken),
     }
 }
 
 // Takes a piece of the sweep, and hands out the replies that are due. 3: no sweep open. 4: flag and value slices differ in length.
 // 5: piece over 4,096. 6: sweep would pass 32,768. 7: reply buffer under 72 x ceil(n/206) bytes. 8: a bad flag byte.
-pub fn take(p: Processor, flags: &[u8], values: &[u8], out: &mut [u8]) -> Taken
+pub fn take(p: Processor, flags: &[u8], values: &[u8], out: &mut [u8]) -> Answered
     ensures { TakePost p (lent flags.now values.now) out.old result out.new }
 {
     let number = take_refusal(p.opening.mode, p.taken, flags, values, out.len());

@@ -15,8 +15,8 @@ use Rattle.rules.specs.Samples.{Trace, ◌⧺◌, sweep_limit}
 use Rattle.rules.specs.Buffers.{over, over-at}
 use Rattle.rules.specs.Records.{records, record_size}
 use Rattle.rules.specs.Calls.{fresh}
-use Rattle.calls.specs.declared.Answer.{Answer}
-use Rattle.calls.specs.declared.Answer.TheVariants.{Accepted, Refused}
+use Rattle.calls.specs.Answers.{Answer}
+use Rattle.std.specs.Prelude.{Ok, Err}
 use Rattle.processor.specs.declared.Processor.{Processor}
 use Rattle.processor.specs.declared.Progress.{Progress}
 use Rattle.processor.specs.State.{running, running_processor, processor_of, Made}
@@ -33,12 +33,12 @@ use Rattle.blocks.proofs.Working.{over-nil}
 use Rattle.takes.specs.declared.Reached.{Reached}
 
 unfoldable pub is_refused : Answer → Bool
-is_refused (Accepted n) = false
-is_refused (Refused k) = true
+is_refused (Ok n) = false
+is_refused (Err k) = true
 
 unfoldable pub count_in_lem : Answer → ℕ
-count_in_lem (Accepted n) = n
-count_in_lem (Refused k) = 0
+count_in_lem (Ok n) = n
+count_in_lem (Err k) = 0
 
 -- the bytes l at the start of the rest of a buffer
 pub over-rest : (l : List ℕ) (at : ℕ) (b : List ℕ) → take at b ++ over l (drop at b) ≡ over-at l at b

@@ -29,7 +29,7 @@ mod outcome_bytes;
 
 ghost use Rattle.std.specs.Prelude.{◌≤◌, length};
 
-use calls::{Answer, Closed, Taken};
+use calls::{Answer, Closed, Answered};
 use outcome_bytes::{put_answer, put_processor, put_totals};
 use processor::Processor;
 use rules::{Opening, Totals};
@@ -153,8 +153,8 @@ fn tell(
 // The step after an opening whose outcome is told by `s`: where it was refused, the processor stays.
 fn after_opening(before: Processor, answer: Answer, s: Step) -> Step {
     match answer {
-        Answer::Accepted(_) => s,
-        Answer::Refused(_) => Step {
+        Ok(_) => s,
+        Err(_) => Step {
             going: s.going,
             processor: before,
         },
@@ -176,7 +176,7 @@ fn make_open(rt: &(impl Print + Eprint), p: Processor, c: Call) -> Step {
 }
 
 // A take that is lent the `lent` bytes behind what is told.
-fn take_in(p: Processor, flags: &[u8], values: &[u8], out: &mut [u8], lent: usize) -> Taken
+fn take_in(p: Processor, flags: &[u8], values: &[u8], out: &mut [u8], lent: usize) -> Answered
     requires { (lent ≤ 2048) × (3016 ≤ length out.old) }
 {
     sweep::take(p, flags, values, &mut out[TOLD..TOLD + lent])

@@ -35,11 +35,11 @@ pub fn put_answer(out: &mut [u8], answer: Answer)
     requires { 968 ≤ length out.old }
 {
     match answer {
-        Answer::Accepted(count) => {
+        Ok(count) => {
             put(out, 0, 1);
             put(out, 8, count as u64);
         }
-        Answer::Refused(number) => {
+        Err(number) => {
             put(out, 0, 2);
             put(out, 8, number as u64);
         }

@@ -15,7 +15,7 @@ use Rattle.rules.specs.Records.{records, record_size}
 use Rattle.rules.specs.Calls.{accepted, most_left, rest}
 use Rattle.rules.proofs.HandingOut.{rest-most}
 use Rattle.frames.specs.Writing.{totals_bytes_lem}
-use Rattle.calls.specs.declared.Answer.TheVariants.{Accepted, Refused}
+use Rattle.std.specs.Prelude.{Ok, Err}
 use Rattle.processor.specs.declared.Processor.{Processor}
 use Rattle.calls.specs.declared.Closed.{Closed}
 use Rattle.processor.specs.State.{running, Made}
@@ -38,7 +38,7 @@ module _ (p : Processor) (at : ℕ) (b : List ℕ) (here : at ≤ length b) (x :
         ∙ ap (λ (y : List ℕ). take at b ++ y) (append-nil (over (records (rest standard T)) (drop at b)))
         ∙ over-rest (records (rest standard T)) at b
 
-  pub closed-accepted : (c c' : List ℕ) → c' ≡ over (totals_bytes_lem x.totals) c → (n k : ℕ) → x.answer ≡ Accepted n → k ≡ min n most_left
+  pub closed-accepted : (c c' : List ℕ) → c' ≡ over (totals_bytes_lem x.totals) c → (n k : ℕ) → x.answer ≡ Ok n → k ≡ min n most_left
       → CloseAtPost p at b c (at / record_size + k) (put_mid at (length b - at) b m') c'
   unfolding count_in_lem
   closed-accepted c c' w n k e q =
@@ -51,7 +51,7 @@ module _ (p : Processor) (at : ℕ) (b : List ℕ) (here : at ≤ length b) (x :
             w ∙ ap (λ (y : Totals). over (totals_bytes_lem y) c) (ap (λ (y : Closed). y.totals) (is ω T m room));
       }
 
-  pub closed-refused : (c c' : List ℕ) → (n : ℕ) → x.answer ≡ Refused n → CloseAtPost p at b c (at / record_size) (put_mid at (length b - at) b m') c'
+  pub closed-refused : (c c' : List ℕ) → (n : ℕ) → x.answer ≡ Err n → CloseAtPost p at b c (at / record_size) (put_mid at (length b - at) b m') c'
   unfolding is_refused
   closed-refused c c' n e =
       record {

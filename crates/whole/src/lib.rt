@@ -29,8 +29,8 @@ fn close_at(p: Processor, out: &mut [u8], at: usize, totals: &mut [u8]) -> usize
     let answer = c.answer;
     put_totals(t, totals);
     match answer {
-        Answer::Refused(_) => at / RECORD,
-        Answer::Accepted(count) => at / RECORD + least(count, MOST_LEFT),
+        Err(_) => at / RECORD,
+        Ok(count) => at / RECORD + least(count, MOST_LEFT),
     }
 }
 

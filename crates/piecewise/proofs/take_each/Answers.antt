@@ -2,7 +2,7 @@
 use Prim.Native.Nat.{ℕ, ◌+◌}
 use native.Mathlib.Omega.{arith}
 use mathlib.Core.Path.{ap}
-use Rattle.calls.specs.declared.Opened.{Opened}
+use Rattle.calls.specs.declared.Answered.{Answered}
 use Rattle.takes.proofs.Taking.{all-bytes}
 use Rattle.piecewise.proofs.Piecing.{some, alike, pieces_start, room-left, count_small, pieces_next, pieces_end}
 use Rattle.piecewise.proofs.take_each.Goals as goal
@@ -21,25 +21,25 @@ pub slice_bounds-take-count-in-loop-i-2 : goal.slice_bounds-take-count-in-loop-i
 slice_bounds-take-count-in-loop-i-2 c =
     let a = c.args in
     let l = c.loop-i in
-    omega (arith, room-left a.opening (record { flags = a.flags.now; values = a.values.now }) a.piece a.out.now c.requires l.p l.at l.i l.out (l.invariant.pieces a.opening (ap (λ (x : Opened). x.processor) c.open-o.ensures) c.requires))
+    omega (arith, room-left a.opening (record { flags = a.flags.now; values = a.values.now }) a.piece a.out.now c.requires l.p l.at l.i l.out (l.invariant.pieces a.opening (ap (λ (x : Answered). x.processor) c.open-o.ensures) c.requires))
 
 pub slice_bounds-take-start-in-loop-i-2 : goal.slice_bounds-take-start-in-loop-i-2
 slice_bounds-take-start-in-loop-i-2 c =
     let a = c.args in
     let l = c.loop-i in
-    omega (arith, room-left a.opening (record { flags = a.flags.now; values = a.values.now }) a.piece a.out.now c.requires l.p l.at l.i l.out (l.invariant.pieces a.opening (ap (λ (x : Opened). x.processor) c.open-o.ensures) c.requires))
+    omega (arith, room-left a.opening (record { flags = a.flags.now; values = a.values.now }) a.piece a.out.now c.requires l.p l.at l.i l.out (l.invariant.pieces a.opening (ap (λ (x : Answered). x.processor) c.open-o.ensures) c.requires))
 
 pub overflow_mul-at : goal.overflow_mul-at
 overflow_mul-at c =
     let a = c.args in
     let l = c.loop-i in
-    omega (arith, count_small a.opening (record { flags = a.flags.now; values = a.values.now }) a.piece a.out.now c.requires l.p l.at l.i l.out (l.invariant.pieces a.opening (ap (λ (x : Opened). x.processor) c.open-o.ensures) c.requires) (all-bytes a.values.now (λ k. omega (arith, c.type_inv.values k))) _ (ap (λ (n : ℕ). l.i + n) c.least.ensures) c.take-t.result _ c.take-t.ensures c.count_of.result c.count_of.ensures)
+    omega (arith, count_small a.opening (record { flags = a.flags.now; values = a.values.now }) a.piece a.out.now c.requires l.p l.at l.i l.out (l.invariant.pieces a.opening (ap (λ (x : Answered). x.processor) c.open-o.ensures) c.requires) (all-bytes a.values.now (λ k. omega (arith, c.type_inv.values k))) _ (ap (λ (n : ℕ). l.i + n) c.least.ensures) c.take-t.result _ c.take-t.ensures c.count_of.result c.count_of.ensures)
 
 pub overflow_add-at : goal.overflow_add-at
 overflow_add-at c =
     let a = c.args in
     let l = c.loop-i in
-    omega (arith, count_small a.opening (record { flags = a.flags.now; values = a.values.now }) a.piece a.out.now c.requires l.p l.at l.i l.out (l.invariant.pieces a.opening (ap (λ (x : Opened). x.processor) c.open-o.ensures) c.requires) (all-bytes a.values.now (λ k. omega (arith, c.type_inv.values k))) _ (ap (λ (n : ℕ). l.i + n) c.least.ensures) c.take-t.result _ c.take-t.ensures c.count_of.result c.count_of.ensures)
+    omega (arith, count_small a.opening (record { flags = a.flags.now; values = a.values.now }) a.piece a.out.now c.requires l.p l.at l.i l.out (l.invariant.pieces a.opening (ap (λ (x : Answered). x.processor) c.open-o.ensures) c.requires) (all-bytes a.values.now (λ k. omega (arith, c.type_inv.values k))) _ (ap (λ (n : ℕ). l.i + n) c.least.ensures) c.take-t.result _ c.take-t.ensures c.count_of.result c.count_of.ensures)
 
 pub loop-i-smaller : goal.loop-i-smaller
 loop-i-smaller c =
@@ -55,10 +55,10 @@ loop-i-preserved c =
 pub shape_of-out : goal.shape_of-out
 shape_of-out c =
     let a = c.args in
-    (c.loop-i.invariant.pieces a.opening (ap (λ (x : Opened). x.processor) c.open-o.ensures) c.requires).size
+    (c.loop-i.invariant.pieces a.opening (ap (λ (x : Answered). x.processor) c.open-o.ensures) c.requires).size
 
 pub returns : goal.returns
 returns c =
     let a = c.args in
     let l = c.loop-i in
-    pieces_end a.opening (record { flags = a.flags.now; values = a.values.now }) a.piece a.out.now c.requires l.p l.at l.i l.out (l.invariant.pieces a.opening (ap (λ (x : Opened). x.processor) c.open-o.ensures) c.requires) (omega arith)
+    pieces_end a.opening (record { flags = a.flags.now; values = a.values.now }) a.piece a.out.now c.requires l.p l.at l.i l.out (l.invariant.pieces a.opening (ap (λ (x : Answered). x.processor) c.open-o.ensures) c.requires) (omega arith)
