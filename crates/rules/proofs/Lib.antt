@@ -23,4 +23,5 @@ pub mod Skipping
 pub mod PastEnd
 pub mod Examples
 pub mod Checks
+pub mod Refusals
 pub mod Answers
