@@ -1,4 +1,2 @@
--- Laws of feet, of the altitude of a code, and of modes.
-pub mod Feet
+-- Laws of the steps of a code.
 pub mod AltitudeLaws
-pub mod MeaningLaws

@@ -2,22 +2,13 @@
 // Every 16-bit word has an answer: nothing is asked of the caller.
 #![tactic(auto)]
 
-ghost use Rattle.std.specs.Prelude.{◌≡◌, ◌≤◌, ◌<◌};
-ghost use Rattle.codes.specs.Pulses.{any_clear};
+ghost use Rattle.std.specs.Prelude.{◌≡◌, ◌≤◌, ◌<◌, if◌then◌else◌, eqb};
 ghost use Rattle.codes.specs.Gray.{with_digit};
-ghost use Rattle.codes.specs.Altitude.{eleven, five_hundreds_lem, hundreds, group, turned, steps_by, feet_at_lem, altitude};
+ghost use Rattle.codes.specs.Altitude.{five_hundreds_lem, hundreds, group, turned, steps, feet_at_lem, has_none, altitude};
 ghost use Rattle.codes.specs.Meaning.{meaning};
-ghost use Rattle.codes.specs.Answers.{altitude_as, meaning_as};
 
 use codes::pulses::*;
-use codes::{Meaning, PressureAltitude, identity};
-
-// Whether one of the eleven pulses of an altitude has confidence 0.
-fn is_unsure(confidence: u16) -> bool
-    ensures { result ≡ any_clear eleven confidence }
-{
-    (confidence & ELEVEN) != ELEVEN
-}
+use codes::{Meaning, Unread, identity};
 
 // The binary digits n, with the two behind them that two Gray digits stand for.
 fn with_two(n: u16, first: u16, second: u16) -> u16
@@ -29,6 +20,7 @@ fn with_two(n: u16, first: u16, second: u16) -> u16
 }
 
 // How many whole 500 ft a code counts, in Gray code.
+#[tactic(auto, unfolding(codes::specs::Altitude::five_hundreds_lem))]
 fn five_hundreds(code: u16) -> u16
     ensures { result ≡ five_hundreds_lem code }
 {
@@ -38,18 +30,17 @@ fn five_hundreds(code: u16) -> u16
     with_two(n6, code / B2 % 2, code / B4 % 2)
 }
 
-// How many 100 ft the group C1 C2 C4 of a code counts: 1 to 5, or 0 for another group.
-fn hundreds_of(code: u16) -> u16
-    ensures { result ≡ hundreds (group code) }
+// How many 100 ft the group C1 C2 C4 of a code counts, 1 to 5; none for another group.
+fn hundreds_of(code: u16) -> Option<u16>
+    ensures { result ≡ (if eqb (hundreds (group code)) 0 then None else Some (hundreds (group code))) }
 {
-    let group = weighted(code, C1, C2, C4);
-    match group {
-        0b001 => 1,
-        0b011 => 2,
-        0b010 => 3,
-        0b110 => 4,
-        0b100 => 5,
-        _ => 0,
+    match weighted(code, C1, C2, C4) {
+        0b001 => Some(1),
+        0b011 => Some(2),
+        0b010 => Some(3),
+        0b110 => Some(4),
+        0b100 => Some(5),
+        _ => None,
     }
 }
 
@@ -64,48 +55,48 @@ pub fn turned_at(n: u16, h: u16) -> u16
     h
 }
 
-// How many 100 ft from -1,300 ft on a code counts, whose group counts h.
-fn steps_of(code: u16, h: u16) -> u16
-    requires { h ≤ 5 }
-    ensures { result ≡ steps_by (five_hundreds_lem code) h }
+// How many 100 ft from -1,300 ft on a code counts; none where it is no altitude: for another group, for D1 and below -1,000 ft (3 steps).
+#[tactic(auto, using(crate::proofs::AltitudeLaws::counts), unfolding(codes::specs::Altitude::steps))]
+fn steps_of(code: u16) -> Option<u16>
+    ensures { result ≡ (if has_none code then None else Some (steps code)) }
 {
+    let h = hundreds_of(code)?;
     let n = five_hundreds(code);
-    5 * n + turned_at(n, h)
+    let s = 5 * n + turned_at(n, h);
+    if code / D1 % 2 == 1 || s < 3 {
+        return None;
+    }
+    Some(s)
 }
 
 // 100 (s - 13) ft.
+#[tactic(auto, using(std::proofs::lemmas::Int::ints))]
 fn feet_at(s: u16) -> i32
     ensures { result ≡ feet_at_lem s }
 {
-    100 * (s as i32 - 13)
+    100 * (i32::from(s) - 13)
 }
 
-// The altitude that a code gives, by the confidence of its pulses. There is none for another group, for D1 and below -1,000 ft (3 steps); unsure wins.
-pub fn altitude(code: u16, confidence: u16) -> PressureAltitude
-    ensures { result ≡ altitude_as (altitude code confidence) }
+// The altitude that a code gives, in feet. Unsure wins over no altitude.
+#[tactic(auto, using(codes::proofs::PulseLaws::masks), unfolding(codes::specs::Altitude::altitude))]
+pub fn altitude(code: u16, confidence: u16) -> Result<i32, Unread>
+    ensures { result ≡ altitude code confidence }
 {
-    let unsure = is_unsure(confidence);
-    let h = hundreds_of(code);
-    let s = steps_of(code, h);
-    let none = (h == 0) | ((code / D1 % 2 == 1) | (s < 3));
-    let feet = feet_at(s);
-    if unsure {
-        return PressureAltitude::Unsure;
+    if is_unsure(confidence, ELEVEN) {
+        return Err(Unread::Unsure);
     }
-    if none {
-        return PressureAltitude::NoAltitude;
-    }
-    PressureAltitude::Feet(feet)
+    steps_of(code).map(feet_at).ok_or(Unread::NoAltitude)
 }
 
-// What a reply says: the altitude in mode 3, the identity in modes 1 and 2. Another number is no mode.
-pub fn meaning_of(mode: u8, code: u16, confidence: u16) -> Meaning
-    ensures { result ≡ meaning_as (meaning mode code confidence) }
+// What a reply says: the altitude in mode 3, the identity in modes 1 and 2; none where the number is no mode.
+// Stays: a mode is a number here, for C hands on any (meaning_number), and each has its answer.
+#[tactic(auto, unfolding(codes::specs::Meaning::meaning))]
+pub fn meaning_of(mode: u8, code: u16, confidence: u16) -> Option<Meaning>
+    ensures { result ≡ meaning mode code confidence }
 {
     match mode {
-        3 => Meaning::Altitude(altitude(code, confidence)),
-        1 => Meaning::Identity(identity(code, confidence)),
-        2 => Meaning::Identity(identity(code, confidence)),
-        _ => Meaning::NoMode,
+        1 | 2 => Some(Meaning::Identity(identity(code, confidence))),
+        3 => Some(Meaning::Altitude(altitude(code, confidence))),
+        _ => None,
     }
 }

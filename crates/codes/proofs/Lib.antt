@@ -1,6 +1,5 @@
--- Laws of pulses, of Gray code and of the identity, and tests of all lists of digits.
+-- Laws of pulses and of Gray code, and tests of all lists of digits.
 pub mod DigitTests
 pub mod GrayLaws
 pub mod PulseLaws
-pub mod IdentityLaws
 pub mod Dependence

@@ -107,3 +107,6 @@ eleven-clear c = by_mask eleven 0x1ebf c (and-eleven c) (passed 11 (mask_test el
 
 pub twelve-clear : (c : ℕ) → not (eqb (bit_and c 0x1fbf) 0x1fbf) ≡ any_clear twelve c
 twelve-clear c = by_mask twelve 0x1fbf c (and-twelve c) (passed 12 (mask_test twelve 0x1fbf) all-twelve (digits_at twelve c) refl (search below_two))
+
+-- both, for the functions that test one of the masks
+pub ruleset masks = (eleven-clear, twelve-clear)

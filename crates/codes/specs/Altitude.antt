@@ -1,15 +1,11 @@
 -- The altitude of a mode C reply, in feet.
-use Rattle.std.specs.Prelude.{ℕ, suc, ◌+◌, ◌-◌, ◌*◌, Bool, ◌||◌, cond, List, [], ◌∷◌, ◌++◌, eqb, ℤ, pos, neg_ℤ, ◌-ℤ◌, ◌*ℤ◌}
+use Rattle.std.specs.Prelude.{ℕ, suc, ◌+◌, ◌-◌, ◌*◌, Bool, ◌||◌, cond, List, [], ◌∷◌, ◌++◌, eqb, ℤ, pos, neg_ℤ, ◌-ℤ◌, ◌*ℤ◌, Result, Ok, Err}
 use Rattle.std.specs.Int.Signed.{lt_z}
 use Rattle.rules.specs.Samples.{odd, bit}
+use Rattle.codes.specs.declared.Unread.{Unread}
+use Rattle.codes.specs.declared.Unread.TheVariants.{Unsure, NoAltitude}
 use Rattle.codes.specs.Pulses.{C1, A1, C2, A2, C4, A4, B1, D1, B2, D2, B4, D4, digits_at, any_clear, weighted}
 use Rattle.codes.specs.Gray.{gray}
-
--- the answer: feet; unsure; no altitude
-pub data Altitude : Type 0 where
-  feet : ℤ → Altitude
-  unsure : Altitude
-  none : Altitude
 
 -- the eight pulses that count 500 ft, highest first, the three that count 100 ft, and all eleven
 abbrev pub eight : List ℕ
@@ -66,7 +62,7 @@ unfoldable pub has_none : ℕ → Bool
 unfolding steps
 has_none code = eqb (hundreds (group code)) 0 || (bit D1 code || lt_z (feet_at_lem (steps code)) lowest)
 
--- unsure, whatever the code says, if one of the eleven has confidence 0
-unfoldable pub altitude : ℕ → ℕ → Altitude
+-- feet; or unsure, whatever the code says, if one of the eleven has confidence 0; or no altitude
+unfoldable pub altitude : ℕ → ℕ → Result ℤ Unread
 unfolding has_none steps
-altitude code confidence = cond (any_clear eleven confidence) unsure (cond (has_none code) none (feet (feet_at_lem (steps code))))
+altitude code confidence = cond (any_clear eleven confidence) (Err Unsure) (cond (has_none code) (Err NoAltitude) (Ok (feet_at_lem (steps code))))

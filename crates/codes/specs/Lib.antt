@@ -5,5 +5,4 @@ pub mod Altitude
 pub mod Identity
 pub mod Meaning
 pub mod Writing
-pub mod Answers
 pub mod Depends

@@ -1,14 +1,9 @@
 -- The code of an altitude: only the eleven pulses of an altitude can be set.
-use Rattle.std.specs.Prelude.{ℕ, ◌+◌, ◌-◌, ◌/◌, ◌%◌, Bool, ◌&&◌, cond, List, [], ◌∷◌, ◌++◌, eqb, ℤ, pos, nat_abs, ◌+ℤ◌, get_or}
+use Rattle.std.specs.Prelude.{ℕ, ◌+◌, ◌-◌, ◌/◌, ◌%◌, Bool, ◌&&◌, cond, List, [], ◌∷◌, ◌++◌, eqb, ℤ, pos, nat_abs, ◌+ℤ◌, get_or, Option, Some, None}
 use Rattle.std.specs.Int.Signed.{le_z}
 use Rattle.codes.specs.Pulses.{word_of}
 use Rattle.codes.specs.Gray.{gray_of}
 use Rattle.codes.specs.Altitude.{eleven, groups, turned, lowest}
-
--- the answer: a code word; none
-pub data Coded : Type 0 where
-  code : ℕ → Coded
-  no_code : Coded
 
 -- the highest altitude, 126,700 ft
 abbrev pub highest : ℤ
@@ -35,10 +30,7 @@ written s =
 abbrev pub steps_to : ℤ → ℕ
 steps_to z = nat_abs (z +ℤ pos 1300) / 100
 
-unfoldable pub code_of : ℤ → Coded
+-- the code word; none for a number that has no code
+unfoldable pub code_of : ℤ → Option ℕ
 unfolding written
-code_of z = cond (has_code z) (code (written (steps_to z))) no_code
-
--- For the code: feet above -1,300 ft, where a number of feet is in the range of altitudes; 0 where it is not.
-unfoldable pub raised : ℤ → ℕ
-raised z = cond (le_z lowest z && le_z z highest) (nat_abs (z +ℤ pos 1300)) 0
+code_of z = cond (has_code z) (Some (written (steps_to z))) None

@@ -1,5 +1,5 @@
 // The pulses of a code: the weight that each has in a code word and in a confidence word, in order of time. (Between A4 and B1 stands X, 64.)
-ghost use Rattle.std.specs.Prelude.{◌≡◌, ◌+◌, ◌*◌, ◌/◌, ◌%◌, ◌<◌};
+ghost use Rattle.std.specs.Prelude.{◌≡◌, ◌+◌, ◌*◌, ◌/◌, ◌%◌, ◌<◌, not, eqb, bit_and};
 
 pub const C1: u16 = 1;
 
@@ -35,5 +35,13 @@ pub fn weighted(word: u16, four: u16, two: u16, one: u16) -> u8
     requires { (0 < four) × (0 < two) × (0 < one) }
     ensures { result ≡ 4 * (word / four % 2) + 2 * (word / two % 2) + word / one % 2 }
 {
+    // Stays: From widens alone, and u8::try_from(..).unwrap() is no plainer than a cast that is proved to fit.
     (4 * (word / four % 2) + 2 * (word / two % 2) + word / one % 2) as u8
+}
+
+// Whether one of a mask's pulses has confidence 0.
+pub fn is_unsure(confidence: u16, pulses: u16) -> bool
+    ensures { result ≡ not (eqb (bit_and confidence pulses) pulses) }
+{
+    confidence & pulses != pulses
 }

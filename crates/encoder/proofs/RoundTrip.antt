@@ -3,62 +3,43 @@ use Prim.Native.Nat.{ℕ, zero, suc, ◌+◌, ◌-◌, ◌*◌, ◌/◌, ◌%◌
 use native.Mathlib.Omega.{arith}
 use native.Mathlib.Nat.{div-eq_of_lt, le_of_lt}
 use mathlib.Core.Path.{◌≡◌, refl, sym, ap, ◌∙◌}
-use mathlib.Core.Bool.{Bool, true, false, cond, ◌&&◌, ◌||◌}
+use mathlib.Core.Bool.{Bool, true, false, cond, ◌||◌}
 use mathlib.Core.List.{List, [], ◌∷◌, ◌++◌}
-use lib.Dec.{leb, ltb, eqb}
-use lib.IntN.{ℤ, pos, negsuc, nat_abs, ◌+ℤ◌}
+use lib.Dec.{ltb, eqb}
+use lib.IntN.{ℤ, pos, negsuc}
 use lib.ListN.{get_or, take}
-use borrow.Author.Tests.{ltb-true, ltb-false, leb-true, eqb-true, eqb-false, lt-ltb, le-ltb, le-leb, eq-eqb, ne_eqb}
+use borrow.Author.Tests.{ltb-false, eqb-true, eqb-false, le-ltb, ne_eqb}
+use Rattle.std.specs.Prelude.{Some, None, Ok, Err}
+use Rattle.std.proofs.lemmas.Int.{ints}
+use Rattle.std.proofs.lemmas.Bool.Decides.{nat_tests}
+use Rattle.codes.specs.declared.Unread.TheVariants.{Unsure, NoAltitude}
 use Rattle.rules.specs.Samples.{odd, bit}
 use Rattle.rules.proofs.Truth.{or_left, or_right, or-second}
 use Rattle.codes.specs.Pulses.{C1, C2, C4, D1, digit, digits_at, any_clear, word_of}
 use Rattle.codes.specs.Gray.{gray, gray_from, gray_of}
-use Rattle.codes.specs.Altitude.{feet, unsure, none, eight, three as three-pulses, eleven, five_hundreds_lem, group, groups, hundreds, turned, steps_by, steps, feet_at_lem, has_none, altitude}
-use Rattle.codes.specs.Writing.{code, no_code, three_digits, group_of, written, code_of, raised}
+use Rattle.codes.specs.Altitude.{eight, three as three-pulses, eleven, five_hundreds_lem, group, groups, hundreds, turned, steps_by, steps, feet_at_lem, has_none, altitude}
+use Rattle.codes.specs.Writing.{has_code, three_digits, group_of, written, steps_to, code_of}
 use Rattle.codes.proofs.DigitTests.{below_two, passes, passed}
 use Rattle.codes.proofs.GrayLaws.{read-written, written_read}
-use Rattle.altitudes.proofs.Feet.{feet-low, feet-high}
 use Rattle.altitudes.proofs.AltitudeLaws.{five-hundreds-below, none_is, is-feet}
 use Rattle.encoder.specs.RoundTrip.{altitude_at, eleven_of, CodeOf, differing, RoundTrip}
-use Rattle.encoder.proofs.WritingLaws.{sum_low, code_at, code_is, raised-most, turned-least}
+use Rattle.encoder.proofs.WritingLaws.{turned-least}
 use Rattle.encoder.proofs.DigitLaws.{Digits, digits-back, d1_clear}
 
--- ---- altitudes, steps and feet above -1,300 ft
+-- ---- altitudes and steps
 
 altitude-feet : (k : ℕ) → altitude_at k ≡ feet_at_lem (k + 3)
-altitude-feet k = go (ltb k 10) refl
-  where
-    go : (b : Bool) → ltb k 10 ≡ b → altitude_at k ≡ feet_at_lem (k + 3)
-    go true e =
-        let l = ltb-true k 10 e in
-        let same : 1000 - suc (100 * k) ≡ 1299 - 100 * (k + 3) = omega (arith, l) in
-        rw (lt-ltb (100 * k) 1000 (omega (arith, l)), feet-low (k + 3) (omega (arith, l))) (ap negsuc same)
-    go false e =
-        let l = ltb-false k 10 e in
-        let same : 100 * k - 1000 ≡ 100 * (k + 3 - 13) = omega (arith, l) in
-        rw (le-ltb (100 * k) 1000 (omega (arith, l)), feet-high (k + 3) (omega (arith, l))) (ap pos same)
+altitude-feet k = omega (arith, ints)
 
-raised-feet : (s : ℕ) → 3 ≤ s → s ≤ 1280 → raised (feet_at_lem s) ≡ 100 * s
-unfolding raised
-raised-feet s l m = go (ltb s 13) refl
-  where
-    go : (b : Bool) → ltb s 13 ≡ b → raised (feet_at_lem s) ≡ 100 * s
-    go true e =
-        let h = ltb-true s 13 e in
-        let low : 1299 - 100 * s ≤ 999 = omega arith in
-        let same : 1299 - (1299 - 100 * s) ≡ 100 * s = omega (arith, h) in
-        rw (feet-low s h, le-leb (1299 - 100 * s) 999 low, sum_low (1299 - 100 * s) low) same
-    go false e =
-        let h = ltb-false s 13 e in
-        let high : 100 * (s - 13) ≤ 126700 = omega arith in
-        let same : 100 * (s - 13) + 1300 ≡ 100 * s = omega (arith, h) in
-        rw (feet-high s h, le-leb (100 * (s - 13)) 126700 high) same
+has_code-feet : (s : ℕ) → 3 ≤ s → s ≤ 1280 → has_code (feet_at_lem s) ≡ true
+has_code-feet s l m = grind (arith, ints)
 
-pub code_of-feet : (s : ℕ) → 3 ≤ s → s ≤ 1280 → code_of (feet_at_lem s) ≡ code (written s)
-code_of-feet s l m =
-    let whole : 100 * s % 100 ≡ 0 = omega arith in
-    let same : 100 * s / 100 ≡ s = omega arith in
-    code_is (feet_at_lem s) ∙ ap code_at (raised-feet s l m) ∙ (rw (lt-ltb 0 (100 * s) (omega arith), eq-eqb (100 * s % 100) 0 whole) (ap (λ (r : ℕ). code (written r)) same))
+steps_to-feet : (s : ℕ) → 3 ≤ s → steps_to (feet_at_lem s) ≡ s
+steps_to-feet s l = grind (arith, ints)
+
+pub code_of-feet : (s : ℕ) → 3 ≤ s → s ≤ 1280 → code_of (feet_at_lem s) ≡ Some (written s)
+unfolding code_of
+code_of-feet s l m = rw (has_code-feet s l m, steps_to-feet s l)
 
 -- ---- h, forth and back
 
@@ -183,8 +164,8 @@ module _ (s : ℕ) (l : 3 ≤ s) (m : s ≤ 1280) where
       none_is (written s)
       ∙ (rw (ne_eqb (hundreds (group (written s))) 0 group-written, d1_written, le-ltb (steps (written s)) 3 (omega (arith, steps-written))))
 
-  pub read-feet : (confidence : ℕ) → any_clear eleven confidence ≡ false → altitude (written s) confidence ≡ feet (feet_at_lem s)
-  read-feet confidence u = is-feet (written s) confidence u has_written ∙ ap (λ (t : ℕ). feet (feet_at_lem t)) steps-written
+  pub read-feet : (confidence : ℕ) → any_clear eleven confidence ≡ false → altitude (written s) confidence ≡ Ok (feet_at_lem s)
+  read-feet confidence u = is-feet (written s) confidence u has_written ∙ ap (λ (t : ℕ). Ok (feet_at_lem t)) steps-written
 
 -- ---- a code that reads as feet is the written one
 
@@ -256,19 +237,13 @@ record Reads (w : ℕ) (z : ℤ) : Type 0 where
   has : has_none w ≡ false
   is : z ≡ feet_at_lem (steps w)
 
-unsure-apart : (z : ℤ) → unsure ≡ feet z → ⊥
-unsure-apart z q = let o : ◌≡◌ {A = ℕ} 0 1 = cc in omega arith
-
-none_apart : (z : ℤ) → none ≡ feet z → ⊥
-none_apart z q = let o : ◌≡◌ {A = ℕ} 0 1 = cc in omega arith
-
-reads-feet : (w confidence : ℕ) (z : ℤ) → altitude w confidence ≡ feet z → Reads w z
+reads-feet : (w confidence : ℕ) (z : ℤ) → altitude w confidence ≡ Ok z → Reads w z
 unfolding altitude
 reads-feet w confidence z e = go (any_clear eleven confidence) (has_none w) refl e
   where
-    go : (u b : Bool) → has_none w ≡ b → cond u unsure (cond b none (feet (feet_at_lem (steps w)))) ≡ feet z → Reads w z
-    go true b p q = absurd (unsure-apart z q)
-    go false true p q = absurd (none_apart z q)
+    go : (u b : Bool) → has_none w ≡ b → cond u (Err Unsure) (cond b (Err NoAltitude) (Ok (feet_at_lem (steps w)))) ≡ Ok z → Reads w z
+    go true b p q = absurd cc
+    go false true p q = absurd cc
     go false false p q = record { has = p; is = cc }
 
 module _ (w : ℕ) (e : has_none w ≡ false) where
@@ -296,7 +271,7 @@ module _ (w : ℕ) (e : has_none w ≡ false) where
 
 -- ---- the theorem
 
-wrote-altitude : (k : ℕ) → k ≤ 1277 → code_of (altitude_at k) ≡ code (written (k + 3))
+wrote-altitude : (k : ℕ) → k ≤ 1277 → code_of (altitude_at k) ≡ Some (written (k + 3))
 wrote-altitude k l = ap code_of (altitude-feet k) ∙ code_of-feet (k + 3) (omega arith) (omega arith)
 
 back_law : (k : ℕ) → k ≤ 1277 → (w : ℕ) × CodeOf k w
@@ -307,45 +282,27 @@ back_law k l =
       record {
         wrote = wrote-altitude k l;
         others-clear = eleven-written (k + 3) p q;
-        reads = λ confidence u. read-feet (k + 3) p q confidence u ∙ ap feet (sym (altitude-feet k));
+        reads = λ confidence u. read-feet (k + 3) p q confidence u ∙ ap Ok (sym (altitude-feet k));
       },
     )
 
-once_law : (w confidence : ℕ) (z : ℤ) → altitude w confidence ≡ feet z → code_of z ≡ code (eleven_of w)
+once_law : (w confidence : ℕ) (z : ℤ) → altitude w confidence ≡ Ok z → code_of z ≡ Some (eleven_of w)
 once_law w confidence z e =
     let r = reads-feet w confidence z e in
-    ap code_of r.is ∙ code_of-feet (steps w) (least w r.has) (most w r.has) ∙ ap code (rewritten w r.has)
+    ap code_of r.is ∙ code_of-feet (steps w) (least w r.has) (most w r.has) ∙ ap Some (rewritten w r.has)
 
--- a number in the range whose feet above -1,300 ft are a multiple of 100 is an altitude
-altitude_of : (z : ℤ) → (raised z ≡ 0 → ⊥) → raised z % 100 ≡ 0 → altitude_at (raised z / 100 - 3) ≡ z
-unfolding raised
-altitude_of (pos a) = go (leb a 126700)
-  where
-    go : (b : Bool) → (cond b (a + 1300) 0 ≡ 0 → ⊥) → cond b (a + 1300) 0 % 100 ≡ 0 → altitude_at (cond b (a + 1300) 0 / 100 - 3) ≡ pos a
-    go true k e =
-        let same : 100 * ((a + 1300) / 100 - 3) - 1000 ≡ a = omega arith in
-        rw (le-ltb (100 * ((a + 1300) / 100 - 3)) 1000 (omega arith)) (ap pos same)
-    go false k e = absurd (k refl)
-altitude_of (negsuc a) = go (leb a 999) refl
-  where
-    go : (b : Bool) → leb a 999 ≡ b → (cond (b && true) (nat_abs (negsuc a +ℤ pos 1300)) 0 ≡ 0 → ⊥) → cond (b && true) (nat_abs (negsuc a +ℤ pos 1300)) 0 % 100 ≡ 0
-        → altitude_at (cond (b && true) (nat_abs (negsuc a +ℤ pos 1300)) 0 / 100 - 3) ≡ negsuc a
-    go true p k e =
-        let l = leb-true a 999 p in
-        let whole : (1299 - a) % 100 ≡ 0 = rw (sum_low a l) at e in
-        let same : 1000 - suc (100 * ((1299 - a) / 100 - 3)) ≡ a = omega (arith, l, whole) in
-        rw (sum_low a l, lt-ltb (100 * ((1299 - a) / 100 - 3)) 1000 (omega (arith, l, whole))) (ap negsuc same)
-    go false p k e = absurd (k refl)
+-- a number that has a code is an altitude
+altitude_of : (z : ℤ) → has_code z ≡ true → (steps_to z - 3 ≤ 1277) × (z ≡ altitude_at (steps_to z - 3))
+altitude_of (pos a) h = (grind (arith, ints, nat_tests), grind (arith, ints, nat_tests))
+altitude_of (negsuc a) h = (grind (arith, ints, nat_tests), grind (arith, ints, nat_tests))
 
-no_other_law : (z : ℤ) → ((k : ℕ) → k ≤ 1277 → z ≡ altitude_at k → ⊥) → code_of z ≡ no_code
-no_other_law z f = code_is z ∙ go (eqb (raised z) 0) (eqb (raised z % 100) 0) refl refl
+no_other_law : (z : ℤ) → ((k : ℕ) → k ≤ 1277 → z ≡ altitude_at k → ⊥) → code_of z ≡ None
+unfolding code_of
+no_other_law z f = go (has_code z) refl
   where
-    go : (a b : Bool) → eqb (raised z) 0 ≡ a → eqb (raised z % 100) 0 ≡ b → code_at (raised z) ≡ no_code
-    go true b p q = ap code_at (eqb-true (raised z) 0 p)
-    go false false p q = rw (q, lt-ltb 0 (raised z) (omega (arith, eqb-false (raised z) 0 p)))
-    go false true p q =
-        absurd
-        (f (raised z / 100 - 3) (omega (arith, raised-most z)) (sym (altitude_of z (eqb-false (raised z) 0 p) (eqb-true (raised z % 100) 0 q))))
+    go : (b : Bool) → has_code z ≡ b → cond b (Some (written (steps_to z))) None ≡ None
+    go true h = let a = altitude_of z h in absurd (f (steps_to z - 3) a.0 a.1)
+    go false h = refl
 
 -- ---- neighbours, by a test of each list of eleven digits
 
@@ -374,10 +331,10 @@ module _ (s : ℕ) (l : 3 ≤ s) (m : s < 1280) where
       let one_apart : eqb (differing (written s) (written (steps (written s) + 1))) 1 ≡ true = or-second _ _ not_last (or-second _ _ group-there tested) in
       ap (λ (t : ℕ). differing (written s) (written (t + 1))) (sym e) ∙ eqb-true (differing (written s) (written (steps (written s) + 1))) 1 one_apart
 
-codes_same : {v w : ℕ} → code v ≡ code w → v ≡ w
+codes_same : {v w : ℕ} → Some v ≡ Some w → v ≡ w
 codes_same e = cc
 
-neighbours_law : (k v w : ℕ) → k < 1277 → code_of (altitude_at k) ≡ code v → code_of (altitude_at (k + 1)) ≡ code w → differing v w ≡ 1
+neighbours_law : (k v w : ℕ) → k < 1277 → code_of (altitude_at k) ≡ Some v → code_of (altitude_at (k + 1)) ≡ Some w → differing v w ≡ 1
 neighbours_law k v w l p q =
     let same-v : v ≡ written (k + 3) = codes_same (sym p ∙ wrote-altitude k (omega arith)) in
     let same_w : w ≡ written (k + 1 + 3) = codes_same (sym q ∙ wrote-altitude (k + 1) (omega arith)) in

@@ -1,28 +1,24 @@
 // The altitude encoder: the code of a number of feet. Every number has an answer: nothing is asked of the caller.
 #![tactic(auto)]
 
-ghost use Rattle.std.specs.Prelude.{◌≡◌, ◌≤◌};
+ghost use Rattle.std.specs.Prelude.{◌≡◌, ◌≤◌, if◌then◌else◌};
 ghost use Rattle.codes.specs.Pulses.{word_of};
 ghost use Rattle.codes.specs.Gray.{gray_of};
 ghost use Rattle.codes.specs.Altitude.{eight, three};
-ghost use Rattle.codes.specs.Writing.{group_of, raised, written, code_of};
-ghost use Rattle.codes.specs.Answers.{written_as};
+ghost use Rattle.codes.specs.Writing.{has_code, steps_to, group_of, written, code_of};
 
 use altitudes::turned_at;
-use codes::Written;
 use codes::pulses::*;
 
-// Feet above -1,300 ft, from -1,000 to 126,700 ft; 0 for another number.
-fn raised_of(feet: i32) -> u32
-    ensures { result ≡ raised feet }
+// How many 100 ft above -1,300 ft a number of feet is; none for one that is no multiple of 100 ft from -1,000 to 126,700 ft.
+fn steps_of(feet: i32) -> Option<u16>
+    ensures { result ≡ (if has_code feet then Some (steps_to feet) else None) }
 {
-    if feet < -1000 {
-        return 0;
+    if feet < -1000 || 126700 < feet || feet % 100 != 0 {
+        return None;
     }
-    if 126700 < feet {
-        return 0;
-    }
-    (feet + 1300) as u32
+    // Stays: From widens alone, and u16::try_from(..).unwrap() is no plainer than a cast that is proved to fit.
+    Some(((feet + 1300) / 100) as u16)
 }
 
 // The eight pulses that are the Gray code of n: in binary, n with its half laid over it.
@@ -60,16 +56,9 @@ fn word_at(s: u16) -> u16
     eight_of(n) + three_of(turned_at(n, h))
 }
 
-// The code of a number of feet.
-pub fn code_of(feet: i32) -> Written
-    ensures { result ≡ written_as (code_of feet) }
+// The code of a number of feet; none where it has no code.
+pub fn code_of(feet: i32) -> Option<u16>
+    ensures { result ≡ code_of feet }
 {
-    let above = raised_of(feet);
-    if above == 0 {
-        return Written::NoCode;
-    }
-    if above % 100 != 0 {
-        return Written::NoCode;
-    }
-    Written::Code(word_at((above / 100) as u16))
+    steps_of(feet).map(word_at)
 }

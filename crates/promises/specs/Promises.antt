@@ -1,6 +1,6 @@
 -- The promises to the buyer, one field each. A type is written out from the definitions of the rules and of the calls, and names no theorem: a theorem
 -- that goes, or says less, leaves a field without its proof (proofs/Kept.antt).
-use Rattle.std.specs.Prelude.{ℕ, ◌+◌, ◌-◌, ◌*◌, ◌^◌, ◌≤◌, false, ◌&&◌, List, [], ◌∷◌, ◌++◌, map, ◌≡◌, leb, eqb, length, ℤ}
+use Rattle.std.specs.Prelude.{ℕ, ◌+◌, ◌-◌, ◌*◌, ◌^◌, ◌≤◌, false, ◌&&◌, List, [], ◌∷◌, ◌++◌, map, ◌≡◌, leb, eqb, length, ℤ, Some, None, Ok}
 use Rattle.std.specs.Float.Ieee.Exact.{HasValue}
 use Rattle.rules.specs.declared.Opening.{Opening}
 use Rattle.rules.specs.declared.Totals.{Totals}
@@ -30,8 +30,8 @@ use Rattle.lines.specs.Post.{afterwards}
 use Rattle.lines.specs.Whole.{Turn, Chain as Scans, all_read, all_printed, last_scan, last_processor, last_held}
 use Rattle.whole.specs.Post.{WholePost}
 use Rattle.codes.specs.Pulses.{any_clear}
-use Rattle.codes.specs.Altitude.{eleven, feet, altitude}
-use Rattle.codes.specs.Writing.{code, no_code, code_of}
+use Rattle.codes.specs.Altitude.{eleven, altitude}
+use Rattle.codes.specs.Writing.{code_of}
 use Rattle.encoder.specs.RoundTrip.{altitude_at, eleven_of}
 use Rattle.promises.specs.Calls.{OfOpen, Turned, OfTake, TurnedClose, OfClose, OfWhole}
 
@@ -158,6 +158,6 @@ pub record Promises : Type 0 where
       → All (λ r. bit 0 (flags_of r.marks r.reference.estimate) ≡ leb 2 r.reference.n) (replies (final set T))
   pub reply-exact : (set : Settings) → Allowed set → (T : Trace) → All (λ v. v ≤ 255) T.values → All (Exact set) (replies (final set T))
   -- C-11: altitudes and their codes, both ways
-  pub altitude-back : (k : ℕ) → k ≤ 1277 → (w : ℕ) × (code_of (altitude_at k) ≡ code w) × ((c : ℕ) → any_clear eleven c ≡ false → altitude w c ≡ feet (altitude_at k))
-  pub altitude-none : (z : ℤ) → ((k : ℕ) → k ≤ 1277 → z ≡ altitude_at k → ⊥) → code_of z ≡ no_code
-  pub altitude-once : (w c : ℕ) (z : ℤ) → altitude w c ≡ feet z → code_of z ≡ code (eleven_of w)
+  pub altitude-back : (k : ℕ) → k ≤ 1277 → (w : ℕ) × (code_of (altitude_at k) ≡ Some w) × ((c : ℕ) → any_clear eleven c ≡ false → altitude w c ≡ Ok (altitude_at k))
+  pub altitude-none : (z : ℤ) → ((k : ℕ) → k ≤ 1277 → z ≡ altitude_at k → ⊥) → code_of z ≡ None
+  pub altitude-once : (w c : ℕ) (z : ℤ) → altitude w c ≡ Ok z → code_of z ≡ Some (eleven_of w)

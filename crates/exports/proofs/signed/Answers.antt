@@ -1,6 +1,0 @@
-use mir.Syntax.{w32}
-use mir.ValLaws.{to_z_pos}
-use Rattle.exports.proofs.signed.Goals as goal
-
-pub returns : goal.returns
-returns c = to_z_pos w32 c.args.n c.requires
