@@ -8,7 +8,6 @@ ghost use Rattle.places.specs.Places.{test};
 ghost use Rattle.agreement.specs.Voices.{covers_in, agreement_by};
 
 use marking::Words;
-use places::any3;
 use plane::marked;
 use replies::{level_of, near};
 use rules::{Place, Slot};
@@ -53,10 +52,10 @@ pub fn agreement_of(p: [Place; 4], on: Words, i: u32, v: u8) -> Agreement
         speaks(covers[3], p[3], v),
     ];
     let other = [
-        any3(own[1], own[2], own[3]),
-        any3(own[0], own[2], own[3]),
-        any3(own[0], own[1], own[3]),
-        any3(own[0], own[1], own[2]),
+        own[1] | own[2] | own[3],
+        own[0] | own[2] | own[3],
+        own[0] | own[1] | own[3],
+        own[0] | own[1] | own[2],
     ];
     Agreement { covers, own, other }
 }

@@ -10,7 +10,7 @@ use Rattle.rules.specs.declared.Reply.{Reply}
 use Rattle.rules.specs.declared.Place.{Place}
 use Rattle.rules.specs.declared.Pulse.{Pulse}
 use Rattle.rules.specs.declared.Counts.{Counts}
-use Rattle.rules.specs.declared.Bracket.TheVariants.{With}
+use Rattle.std.proofs.Common.{Some}
 use Rattle.rules.specs.declared.Fate.{Fate}
 use Rattle.rules.specs.declared.Fate.TheVariants.{Sidelobe, Garbled, Lost, Opens}
 use Rattle.rules.specs.Lists.{All, reject, filter, count}
@@ -173,7 +173,7 @@ unfolding fate is_side
 no_side e f ks h z = impossible (sym (ap is_side z) ∙ side_by (e.main || f.main) _ _ h)
 
 pub phantom-same : (e f : Pulse) (s : State) (k : ℕ) → test (is_phantom e.tick.0) (place_at k s.live) ≡ true → (e.main || f.main) ≡ true
-    → bracket ◌+◌ e (With f) (less_phantom k s) ≡ bracket ◌+◌ e (With f) s
+    → bracket ◌+◌ e (Some f) (less_phantom k s) ≡ bracket ◌+◌ e (Some f) s
 unfolding bracket
 phantom-same e f s k there main =
     let p = is_phantom e.tick.0 in

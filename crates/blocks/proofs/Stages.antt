@@ -9,8 +9,7 @@ use lib.ListN.{length, length-append}
 use borrow.Author.Tests.{leb-true, leb-false}
 use Rattle.rules.specs.declared.Reply.{Reply}
 use Rattle.rules.specs.declared.Pulse.{Pulse}
-use Rattle.rules.specs.declared.Bracket.{Bracket}
-use Rattle.rules.specs.declared.Bracket.TheVariants.{Without, With}
+use Rattle.std.proofs.Common.{Option, Some, None}
 use Rattle.rules.specs.Settings.{standard}
 use Rattle.rules.specs.Lists.{All}
 use Rattle.rules.specs.Ranges.{Ranged}
@@ -102,9 +101,9 @@ module _ (T : Trace) (bd : Bounded T) (u : ℕ) (st : stands (edge_at standard T
   second_byte : f2_value (bracket_at (given standard T) u) ≤ 255
   second_byte = go (bracket_at (given standard T) u) refl
     where
-      go : (b : Bracket) → bracket_at (given standard T) u ≡ b → f2_value b ≤ 255
-      go Without e = omega arith
-      go (With f) e = framed_byte standard standard_allowed T bd.bytes u f (framing (given standard T) u f e)
+      go : (b : Option Pulse) → bracket_at (given standard T) u ≡ b → f2_value b ≤ 255
+      go None e = omega arith
+      go (Some f) e = framed_byte standard standard_allowed T bd.bytes u f (framing (given standard T) u f e)
 
   pub fits : (c : ℕ) (s : State) → c ≤ u → Sound c s → Fits (edge_at standard T u).pulse (bracket_at (given standard T) u) s
   fits c s le h =
@@ -144,7 +143,7 @@ module _ (T : Trace) (t : ℕ) (s : Span) (recent : List ℕ) (base : ℕ) (valu
 
   module _ (k c todo : ℕ) (ec : c ≡ t + k - 242) (lk : k ≤ 64) (clear : (j : ℕ) → j < k → bit todo j ≡ false) (sub : (j : ℕ) → j < 64 → bit todo j ≡ true → bit s.due j ≡ true)
       (idle : (j v : ℕ) → k ≤ j → j < 64 → bit s.due j ≡ true → bit todo j ≡ false → t + j ≡ v + 242
-      → (bracket_at (given standard T) v ≡ Without) × All (λ r. covers v r ≡ false) (state_at T c).live) where
+      → (bracket_at (given standard T) v ≡ None) × All (λ r. covers v r ≡ false) (state_at T c).live) where
     first-from : (i : ℕ) → Lowest todo i → k ≤ i
     first-from i h = go (leb k i) refl
       where
@@ -234,7 +233,7 @@ module _ (T : Trace) (t todo i u : ℕ) (s : State) (h : Held T t todo s) (low :
       (over_first u s.done l r s.counts o ∙ ap (λ (m : List Reply). retired u (record { done = s.done; live = m; counts = s.counts })) (sym e)))
 
   -- a phantom is removed
-  pub held_less : (f : Pulse) (k : ℕ) → bracket_at (given standard T) u ≡ With f → ((edge_at standard T u).pulse.main || f.main) ≡ true
+  pub held_less : (f : Pulse) (k : ℕ) → bracket_at (given standard T) u ≡ Some f → ((edge_at standard T u).pulse.main || f.main) ≡ true
       → test (is_phantom (edge_at standard T u).pulse.tick.0) (place_at k s.live) ≡ true → All (λ r. ended u r ≡ false) s.live → Held T t todo (less_phantom k s)
   unfolding edge_step
   held_less f k b main there none =

@@ -8,7 +8,7 @@ use lib.ListN.{length}
 use Rattle.rules.specs.declared.Place.{Place}
 use Rattle.rules.specs.declared.Pulse.{Pulse}
 use Rattle.rules.specs.declared.Counts.{Counts}
-use Rattle.rules.specs.declared.Bracket.TheVariants.{With}
+use Rattle.std.proofs.Common.{Some}
 use Rattle.plane.specs.Words.{bit, Lowest, WithoutLowest}
 use Rattle.marking.specs.declared.Words.{Words}
 use Rattle.firsts.specs.declared.Firsts.{Firsts}
@@ -41,9 +41,9 @@ second_outcome s i u recent base values f on risk e w main busy y ew em op =
 
 module _ (s : Span) (i u : ℕ) (recent : List ℕ) (base : ℕ) (values : List ℕ) (there : Bool) (et : there ≡ has_bracket_lem s i) where
   -- the F2 that the code finds is that of the bracket
-  pub second_as : there ≡ true → (f : Pulse) → f ≡ second_in s i u recent base values → With f ≡ bracket_in s i u recent base values
+  pub second_as : there ≡ true → (f : Pulse) → f ≡ second_in s i u recent base values → Some f ≡ bracket_in s i u recent base values
   second_as on f ef =
-      ap With ef
+      ap Some ef
       ∙ bracket_there s i u recent base values there
       (cond (bit s.at168 i) (bit s.main168 i) (cond (bit s.at167 i) (bit s.main167 i) (bit s.main169 i))) (apart_in s i)
       (value_of recent base values (u + apart_in s i + 1)) et on refl refl refl
@@ -69,7 +69,7 @@ module _ (s : Span) (i u : ℕ) (recent : List ℕ) (base : ℕ) (values : List 
               (subst (λ (n : Counts). Visited l on risk c i e (bracket_in s i u recent base values) m on risk n) (sym ec) k));
         }
 
-    pub stood_bracketed : (f2 : Pulse) → With f2 ≡ bracket_in s i u recent base values → (l₁ : List Place) (on₁ risk₁ : Words) (c₁ : Counts) (todo₁ due a todo₂ : ℕ) (l₂ : List Place)
+    pub stood_bracketed : (f2 : Pulse) → Some f2 ≡ bracket_in s i u recent base values → (l₁ : List Place) (on₁ risk₁ : Words) (c₁ : Counts) (todo₁ due a todo₂ : ℕ) (l₂ : List Place)
         (on₂ risk₂ : Words) (c₂ : Counts) → Bracketed l on risk c i e f2 l₂ on₂ risk₂ c₂ → TopPost s.due r due → AbovePost due i a → Wanted s on₂ a todo₂ → l₁ ≡ l₂ → c₁ ≡ c₂ → on₁ ≡ on₂
         → risk₁ ≡ risk₂ → todo₁ ≡ todo₂ → Stood l₁ on₁ risk₁ c₁ todo₁
     stood_bracketed f2 eb l₁ on₁ risk₁ c₁ todo₁ due a todo₂ l₂ on₂ risk₂ c₂ fr top ab w el ec eo er et' =

@@ -15,8 +15,7 @@ use Rattle.rules.specs.declared.Place.{Place}
 use Rattle.places.specs.Four.{Places}
 use Rattle.rules.specs.declared.Pulse.{Pulse}
 use Rattle.rules.specs.declared.Counts.{Counts}
-use Rattle.rules.specs.declared.Bracket.{Bracket}
-use Rattle.rules.specs.declared.Bracket.TheVariants.{Without, With}
+use Rattle.std.proofs.Common.{Option, Some, None}
 use Rattle.rules.specs.declared.Fate.{Fate}
 use Rattle.rules.specs.declared.Fate.TheVariants.{Sidelobe, Garbled, Lost, Opens}
 use Rattle.rules.specs.Lists.{All}
@@ -294,35 +293,35 @@ all_early w l s e h =
 -- ---- the edge
 
 -- the places and the words at the edge e, where the bracket b stands, if one does
-abbrev pub Ready : Bracket → List Place → Type 0
-Ready Without l = Unit {0}
-Ready (With f2) l = AllEarly f2.tick.0 l
+abbrev pub Ready : Option Pulse → List Place → Type 0
+Ready None l = Unit {0}
+Ready (Some f2) l = AllEarly f2.tick.0 l
 
-pub record Visited (l : List Place) (on risk : Words) (c : Counts) (i : ℕ) (e : Pulse) (b : Bracket) (m : List Place) (on' risk' : Words) (c' : Counts) : Type 0 where
+pub record Visited (l : List Place) (on risk : Words) (c : Counts) (i : ℕ) (e : Pulse) (b : Option Pulse) (m : List Place) (on' risk' : Words) (c' : Counts) : Type 0 where
   pub at : (t : ℕ) → AllMarked t on risk l → t + i ≡ e.tick.0 + 242 → Ready b l
       → AllMarked t on' risk' m × (machine_in m c' ≡ step_on wrapped standard e b (machine_in l c))
 
-pub visited_plain : (l : List Place) (on risk : Words) (c : Counts) (i : ℕ) (e : Pulse) (b : Bracket) (m : List Place) → i < 64 → b ≡ Without → DealPost l on i e m
+pub visited_plain : (l : List Place) (on risk : Words) (c : Counts) (i : ℕ) (e : Pulse) (b : Option Pulse) (m : List Place) → i < 64 → b ≡ None → DealPost l on i e m
     → Visited l on risk c i e b m on risk c
 unfolding step_on
 visited_plain l on risk c i e b m li eb d =
     record {
       at = λ t k z ready.
           let h = d.at (k.cover i e.tick.0 li z) in
-          (all-dealt e t on risk l m h k, (λ a. record { places = h a; counts = c }) ∙ ap (λ (w : Bracket). step_on wrapped standard e w (machine_in l c)) (sym eb));
+          (all-dealt e t on risk l m h k, (λ a. record { places = h a; counts = c }) ∙ ap (λ (w : Option Pulse). step_on wrapped standard e w (machine_in l c)) (sym eb));
     }
 
-pub visited_bracketed : (l : List Place) (on risk : Words) (c : Counts) (i : ℕ) (e : Pulse) (b : Bracket) (f2 : Pulse) (l₁ : List Place) (on' risk' : Words) (c' : Counts) (m : List Place) → i < 64
-    → b ≡ With f2 → Bracketed l on risk c i e f2 l₁ on' risk' c' → DealPost l₁ on' i e m → Visited l on risk c i e b m on' risk' c'
+pub visited_bracketed : (l : List Place) (on risk : Words) (c : Counts) (i : ℕ) (e : Pulse) (b : Option Pulse) (f2 : Pulse) (l₁ : List Place) (on' risk' : Words) (c' : Counts) (m : List Place) → i < 64
+    → b ≡ Some f2 → Bracketed l on risk c i e f2 l₁ on' risk' c' → DealPost l₁ on' i e m → Visited l on risk c i e b m on' risk' c'
 unfolding step_on
 visited_bracketed l on risk c i e b f2 l₁ on' risk' c' m li eb fp d =
     record {
       at = λ t k z ready.
-          let g = fp.at t k z (subst (λ (w : Bracket). Ready w l) eb ready) in
+          let g = fp.at t k z (subst (λ (w : Option Pulse). Ready w l) eb ready) in
           let h = d.at (g.0.cover i e.tick.0 li z) in (
             all-dealt e t on' risk' l₁ m h g.0,
             (λ a. record { places = (h ∙ (λ j. dealt wrapped standard e (g.1 j).places)) a; counts = (g.1 a).counts })
-                ∙ ap (λ (w : Bracket). step_on wrapped standard e w (machine_in l c)) (sym eb),
+                ∙ ap (λ (w : Option Pulse). step_on wrapped standard e w (machine_in l c)) (sym eb),
           );
     }
 

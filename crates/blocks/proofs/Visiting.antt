@@ -10,7 +10,7 @@ use lib.ListN.{length}
 use borrow.Author.Tests.{leb-true, leb-false}
 use Rattle.rules.specs.declared.Reply.{Reply}
 use Rattle.rules.specs.declared.Place.{Place}
-use Rattle.rules.specs.declared.Bracket.TheVariants.{Without}
+use Rattle.std.proofs.Common.{None}
 use Rattle.rules.specs.Settings.{standard}
 use Rattle.rules.specs.Lists.{any, All}
 use Rattle.rules.specs.Samples.{Trace}
@@ -151,12 +151,12 @@ none_of p [] h = tt
 none_of p (r ∷ l) h = (or_left (p r) (any p l) h, none_of p l (or_right (p r) (any p l) h))
 
 module _ (T : Trace) (s : Span) (t : ℕ) (recent : List ℕ) (base : ℕ) (values : List ℕ) (sh : Shows T t s recent base values) (i u : ℕ) (li : i < 64) (z : t + i ≡ u + 242) where
-  pub bracketless : has_bracket_lem s i ≡ false → bracket_at (given standard T) u ≡ Without
+  pub bracketless : has_bracket_lem s i ≡ false → bracket_at (given standard T) u ≡ None
   bracketless h =
       sym (bracket-none s i u recent base values (has_bracket_lem s i) refl h ∙ span-bracket T s t sh.spanned recent base values sh.reads i u li z)
 
   pub unwanted : (on : Words) (l : List Place) (m : List Reply) → Marked on i (covers u) l → four l ≡ placed m → length m ≤ 4 → wanted_in s on i ≡ false
-      → (bracket_at (given standard T) u ≡ Without) × All (λ r. covers u r ≡ false) m
+      → (bracket_at (given standard T) u ≡ None) × All (λ r. covers u r ≡ false) m
   unwanted on l m k e f h = (
     bracketless (or_left (has_bracket_lem s i) (any_at on i) h),
     none_of (covers u) m (sym (any-placed (covers u) m f) ∙ ap (any_in (covers u)) (sym e) ∙ sym (any-marked on i (covers u) l k) ∙ or_right (has_bracket_lem s i) (any_at on i) h),

@@ -13,8 +13,7 @@ use Rattle.rules.specs.declared.Place.{Place}
 use Rattle.rules.specs.declared.Pulse.{Pulse}
 use Rattle.rules.specs.declared.Counts.{Counts}
 use Rattle.places.specs.Four.{Machine}
-use Rattle.rules.specs.declared.Bracket.{Bracket}
-use Rattle.rules.specs.declared.Bracket.TheVariants.{Without, With}
+use Rattle.std.proofs.Common.{Option, Some, None}
 use Rattle.rules.specs.Settings.{standard}
 use Rattle.rules.specs.Lists.{All, filter}
 use Rattle.rules.specs.Samples.{Trace}
@@ -90,11 +89,11 @@ written-more before done at₀ b₀ at b r at' b' h room ea eb =
 
 -- ---- F2 comes late enough
 
-f2_tick : ℕ → Bracket → ℕ
-f2_tick n Without = n
-f2_tick n (With f) = f.tick.0
+f2_tick : ℕ → Option Pulse → ℕ
+f2_tick n None = n
+f2_tick n (Some f) = f.tick.0
 
-bracket_late : (s : Span) (i u : ℕ) (recent : List ℕ) (base : ℕ) (values : List ℕ) (f : Pulse) → With f ≡ bracket_in s i u recent base values → u + 167 ≤ f.tick.0
+bracket_late : (s : Span) (i u : ℕ) (recent : List ℕ) (base : ℕ) (values : List ℕ) (f : Pulse) → Some f ≡ bracket_in s i u recent base values → u + 167 ≤ f.tick.0
 unfolding bracket_in f2_tick
 bracket_late s i u recent base values f e =
     let k : f.tick.0 ≡ f2_tick (u + 167) (bracket_in s i u recent base values) = ap (f2_tick (u + 167)) e in
@@ -109,7 +108,7 @@ bracket_late s i u recent base values f e =
     p169 : Pulse
     p169 = pulse_in s.main169 i (u + 169) (value_of recent base values (u + 170))
 
-    go : (a b c : Bool) → u + 167 ≤ f2_tick (u + 167) (cond a (With p168) (cond b (With p167) (cond c (With p169) Without)))
+    go : (a b c : Bool) → u + 167 ≤ f2_tick (u + 167) (cond a (Some p168) (cond b (Some p167) (cond c (Some p169) None)))
     go true b c = omega arith
     go false true c = omega arith
     go false false true = omega arith
@@ -272,7 +271,7 @@ module _ (m₀ : Machine) (s : Span) (r t : ℕ) (recent : List ℕ) (base : ℕ
           }
 
       -- the bracket removes the phantom of place k
-      module _ (f2 : Pulse) (eb : With f2 ≡ bracket_in s i u recent base values) (f : Firsts) (ef : f ≡ firsts_of_lem ps) (busy : Bool) (y : Outcome) (op : OutcomePost f on risk i e f2.tick.0 f2.main busy y)
+      module _ (f2 : Pulse) (eb : Some f2 ≡ bracket_in s i u recent base values) (f : Firsts) (ef : f ≡ firsts_of_lem ps) (busy : Bool) (y : Outcome) (op : OutcomePost f on risk i e f2.tick.0 f2.main busy y)
           (k : ℕ) (ek : k ≡ removed_by_lem y) (lk : k < 4) (n : Counts) (en : n ≡ counted_by y c) where
         less : (T : Trace) (l : List Reply) → Block T l → (S : State) → Held T t todo S → machine_in ps c ≡ machine_of S
             → Written (state_at T (t - r - 178)).done S.done at₀ b₀ at b → (on' risk' : Words) (ps' : List Place) → on' ≡ without_word_lem k on → risk' ≡ without_word_lem k risk
@@ -291,7 +290,7 @@ module _ (m₀ : Machine) (s : Span) (r t : ℕ) (recent : List ℕ) (base : ℕ
             let rm = removes_main main clear busy K c (omega (arith, rk, lk)) in
             let there : test (is_phantom P.tick.0) (place_at k S.live) ≡ true =
             last_there (is_phantom P.tick.0) ps S.live k (λ j. (is j).places) (rk ∙ rm.2) lk in
-            let br : bracket_at (given standard T) u ≡ With f2 =
+            let br : bracket_at (given standard T) u ≡ Some f2 =
             sym (eb ∙ span-bracket T s t g.shows.spanned recent base values g.shows.reads i u low.below v.at_u) in
             let ft = fits T g.shows.bounded u v.stood h.from S (h.next i u low v.at_u).0 h.sound in
             let ph : wrapped S.counts.phantoms 1 ≡ S.counts.phantoms + 1 = omega (arith, ft.counts.phantoms) in
@@ -323,11 +322,11 @@ module _ (m₀ : Machine) (s : Span) (r t : ℕ) (recent : List ℕ) (base : ℕ
             }
 
       -- the edge is taken
-      module _ (br : Bracket) (eb : br ≡ bracket_in s i u recent base values) (ps' : List Place) (on' risk' : Words) (c' : Counts) (vd : Visited ps on risk c i e br ps' on' risk' c') (todo' : ℕ)
+      module _ (br : Option Pulse) (eb : br ≡ bracket_in s i u recent base values) (ps' : List Place) (on' risk' : Words) (c' : Counts) (vd : Visited ps on risk c i e br ps' on' risk' c') (todo' : ℕ)
           (td : Todo s r on' todo' (i + 1)) where
-        ready : (T : Trace) (S : State) → Seen T S → (q : Bracket) → q ≡ bracket_in s i u recent base values → Ready q ps
-        ready T S v Without k = tt
-        ready T S v (With f2) k = v.early f2.tick.0 (bracket_late s i u recent base values f2 k)
+        ready : (T : Trace) (S : State) → Seen T S → (q : Option Pulse) → q ≡ bracket_in s i u recent base values → Ready q ps
+        ready T S v None k = tt
+        ready T S v (Some f2) k = v.early f2.tick.0 (bracket_late s i u recent base values f2 k)
 
         taken : (T : Trace) (l : List Reply) → Block T l → (S : State) → Held T t todo S → machine_in ps c ≡ machine_of S
             → Written (state_at T (t - r - 178)).done S.done at₀ b₀ at b → AllMarked t on risk ps → At T todo' b ps' on' risk' c' at

@@ -7,7 +7,7 @@ ghost use Rattle.places.specs.Places.{test};
 ghost use Rattle.firsts.specs.Ticks.{first_of, firsts_of_lem, Tells, AnyTells, NonePost, HidesPost, AnyHidesPost, InsidePost, AnyInsidePost, FreePost, BusyPost, OpenedPost};
 
 use marking::{Words, any_word};
-use places::{any4, opened_by};
+use places::opened_by;
 use plane::marked;
 use replies::{ended, military};
 use rules::{Place, Pulse, Reply, Slot, Tick};
@@ -68,7 +68,7 @@ fn hides(q: Tick, w: Tick) -> bool
 pub fn any_hides(f: Firsts, w: Tick) -> bool
     ensures { AnyHidesPost f w.0 result }
 {
-    any4(hides(f.a, w), hides(f.b, w), hides(f.c, w), hides(f.d, w))
+    hides(f.a, w) | hides(f.b, w) | hides(f.c, w) | hides(f.d, w)
 }
 
 // A reply that opens at u is military by one with F1 at q.
@@ -81,12 +81,10 @@ fn makes_military(q: Tick, u: Tick) -> bool
 fn any_military(f: Firsts, u: Tick) -> bool
     ensures { AnyTells (military' u.0) f result }
 {
-    any4(
-        makes_military(f.a, u),
-        makes_military(f.b, u),
-        makes_military(f.c, u),
-        makes_military(f.d, u),
-    )
+    makes_military(f.a, u)
+        | makes_military(f.b, u)
+        | makes_military(f.c, u)
+        | makes_military(f.d, u)
 }
 
 // A reply with F1 at q covers u at position 1 to 14, where c says that it covers u.
@@ -100,12 +98,10 @@ fn any_inside(f: Firsts, on: Words, i: u32, u: Tick) -> bool
     requires { i < 64 }
     ensures { AnyInsidePost f on i u.0 result }
 {
-    any4(
-        inside(marked(on.a, i), f.a, u),
-        inside(marked(on.b, i), f.b, u),
-        inside(marked(on.c, i), f.c, u),
-        inside(marked(on.d, i), f.d, u),
-    )
+    inside(marked(on.a, i), f.a, u)
+        | inside(marked(on.b, i), f.b, u)
+        | inside(marked(on.c, i), f.c, u)
+        | inside(marked(on.d, i), f.d, u)
 }
 
 // The first idle place, or the last.

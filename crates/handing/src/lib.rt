@@ -11,23 +11,12 @@ use rules::{Place, RECORD, Slot, Tick};
 pub fn hand_one(p: Place, u: Tick, out: &mut [u8], at: usize) -> usize
     ensures { HandedPost 1 (due_slot u.0 p.slot) at out.old result out.new }
 {
-    let s = p.slot;
-    match s {
-        Slot::Idle => at,
-        Slot::Open(r) => {
-            let q = r.f1;
-            if !ended(q, u) {
-                return at;
-            }
-            let len = out.len();
-            if len < at {
-                return at;
-            }
-            if len - at < RECORD {
-                return at;
-            }
-            write_record(out, at, r);
-            at + RECORD
-        }
+    let Slot::Open(r) = p.slot else {
+        return at;
+    };
+    if !ended(r.f1, u) || out.len().saturating_sub(at) < RECORD {
+        return at;
     }
+    write_record(out, at, r);
+    at + RECORD
 }

@@ -8,7 +8,6 @@ use firsts::{Firsts, any_hides};
 use marking::{Words, any_word, last_marked};
 use places::tallied;
 use plane::marked;
-use replies::plus;
 use rules::{Counts, Fate, Pulse, Tick};
 
 // What becomes of a bracket. A phantom that it removes, with its place, is removed first, and the bracket tried again.
@@ -104,6 +103,6 @@ fn phantom_more(c: Counts) -> Counts
         sidelobe: c.sidelobe,
         garbled: c.garbled,
         lost: c.lost,
-        phantoms: plus(c.phantoms, 1),
+        phantoms: c.phantoms.wrapping_add(1),
     }
 }

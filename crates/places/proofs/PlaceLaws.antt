@@ -20,11 +20,21 @@ or_false : (a : Bool) → a ≡ (a || false)
 or_false true = refl
 or_false false = refl
 
-pub any-three : (a b c : Bool) → (a || (b || c)) ≡ any3 a b c
+any-three : (a b c : Bool) → (a || (b || c)) ≡ any3 a b c
 any-three a b c = ap (λ (z : Bool). a || (b || z)) (or_false c)
 
 pub any-four : (a b c d : Bool) → (a || (b || (c || d))) ≡ (a || any3 b c d)
 any-four a b c d = ap (λ (z : Bool). a || z) (any-three b c d)
+
+-- one after the other, as the code asks
+pub three-in-turn : (a b c : Bool) → (a || b || c) ≡ any3 a b c
+three-in-turn true b c = refl
+three-in-turn false true c = refl
+three-in-turn false false c = or_false c
+
+pub four-in-turn : (a b c d : Bool) → (a || b || c || d) ≡ (a || any3 b c d)
+four-in-turn true b c d = refl
+four-in-turn false b c d = three-in-turn b c d
 
 -- ---- tests of a place by its position
 

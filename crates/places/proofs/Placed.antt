@@ -10,8 +10,7 @@ use lib.ListN.{length}
 use Rattle.rules.specs.declared.Reply.{Reply}
 use Rattle.rules.specs.declared.Pulse.{Pulse}
 use Rattle.places.specs.Four.{Places}
-use Rattle.rules.specs.declared.Bracket.{Bracket}
-use Rattle.rules.specs.declared.Bracket.TheVariants.{Without, With}
+use Rattle.std.proofs.Common.{Option, Some, None}
 use Rattle.rules.specs.declared.Fate.{Fate}
 use Rattle.rules.specs.declared.Fate.TheVariants.{Sidelobe, Garbled, Lost, Opens}
 use Rattle.rules.specs.declared.Slot.TheVariants.{Open}
@@ -143,10 +142,10 @@ after-placed Lost l ks r = refl
 after-placed Opens l ks r = push_placed r ks
 
 module _ (plus : ℕ → ℕ → ℕ) (e : Pulse) where
-  bracket-placed : (b : Bracket) (s : State) → length s.live ≤ 4 → bracket_if plus e b (machine_of s) ≡ machine_of (bracket plus e b s)
+  bracket-placed : (b : Option Pulse) (s : State) → length s.live ≤ 4 → bracket_if plus e b (machine_of s) ≡ machine_of (bracket plus e b s)
   unfolding bracket_on bracket
-  bracket-placed Without s h = refl
-  bracket-placed (With f) s h =
+  bracket-placed None s h = refl
+  bracket-placed (Some f) s h =
       let u = e.tick.0 in
       let ks = reject (is_phantom u) s.live in
       let k : length ks ≤ 4 = omega (arith, reject_short (is_phantom u) s.live) in
@@ -154,12 +153,12 @@ module _ (plus : ℕ → ℕ → ℕ) (e : Pulse) where
       (λ i. record { places = after-placed (fate e f ks) s.live ks (opened e f ks) i; counts = tally plus (fate e f ks) (count (is_phantom u) s.live) s.counts })
 
   -- a bracket leaves at most four open
-  still_four : (b : Bracket) (s : State) → length s.live ≤ 4 → length (bracket plus e b s).live ≤ 4
+  still_four : (b : Option Pulse) (s : State) → length s.live ≤ 4 → length (bracket plus e b s).live ≤ 4
   unfolding bracket
-  still_four Without s h = h
-  still_four (With f) s h = bracket-short e (With f) s h
+  still_four None s h = h
+  still_four (Some f) s h = bracket-short e (Some f) s h
 
   -- the whole step
-  pub step-placed : (set : Settings) (b : Bracket) (s : State) → length s.live ≤ 4 → step_on plus set e b (machine_of s) ≡ machine_of (edge_step plus set e b s)
+  pub step-placed : (set : Settings) (b : Option Pulse) (s : State) → length s.live ≤ 4 → step_on plus set e b (machine_of s) ≡ machine_of (edge_step plus set e b s)
   unfolding step_on edge_step deal
   step-placed set b s h = rw (bracket-placed b s h, deal-placed plus set e (bracket plus e b s).live (still_four b s h))

@@ -10,8 +10,7 @@ use Rattle.rules.specs.declared.Pulse.{Pulse}
 use Rattle.rules.specs.declared.Counts.{Counts}
 use Rattle.places.specs.Four.{Machine}
 use Rattle.rules.specs.declared.Estimate.TheVariants.{Average}
-use Rattle.rules.specs.declared.Bracket.{Bracket}
-use Rattle.rules.specs.declared.Bracket.TheVariants.{Without, With}
+use Rattle.std.proofs.Common.{Option, Some, None}
 use Rattle.rules.specs.declared.Fate.{Fate}
 use Rattle.rules.specs.declared.Fate.TheVariants.{Sidelobe, Garbled, Lost, Opens}
 use Rattle.rules.specs.Settings.{Settings, standard}
@@ -103,10 +102,10 @@ ranged-after Lost l ks r h k f = k
 ranged-after Opens l ks r h k f = all_append Ranged ks (r ∷ []) k (f, tt)
 
 module _ (e : Pulse) (s : State) where
-  same_bracket : (b : Bracket) → Fits e b s → bracket wrapped e b s ≡ bracket ◌+◌ e b s
+  same_bracket : (b : Option Pulse) → Fits e b s → bracket wrapped e b s ≡ bracket ◌+◌ e b s
   unfolding bracket
-  same_bracket Without h = refl
-  same_bracket (With f) h =
+  same_bracket None h = refl
+  same_bracket (Some f) h =
       let ks = reject (is_phantom e.tick.0) s.live in
       let p = count (is_phantom e.tick.0) s.live in
       λ i. record {
@@ -115,22 +114,22 @@ module _ (e : Pulse) (s : State) where
         counts = same-tally p (omega (arith, h.four, count_split (is_phantom e.tick.0) s.live)) s.counts h.counts (fate e f ks) i;
       }
 
-  ranged-bracket : (b : Bracket) → Fits e b s → All Ranged (bracket ◌+◌ e b s).live
+  ranged-bracket : (b : Option Pulse) → Fits e b s → All Ranged (bracket ◌+◌ e b s).live
   unfolding bracket
-  ranged-bracket Without h = h.ranged
-  ranged-bracket (With f) h =
+  ranged-bracket None h = h.ranged
+  ranged-bracket (Some f) h =
       let ks = reject (is_phantom e.tick.0) s.live in
       ranged-after (fate e f ks) s.live ks (opened e f ks) h.ranged (all_reject Ranged (is_phantom e.tick.0) s.live h.ranged)
       (ranged-opened e f ks h.value h.second)
 
-  same_step : (set : Settings) (b : Bracket) → Fits e b s → edge_step wrapped set e b s ≡ edge_step ◌+◌ set e b s
+  same_step : (set : Settings) (b : Option Pulse) → Fits e b s → edge_step wrapped set e b s ≡ edge_step ◌+◌ set e b s
   unfolding edge_step deal
   same_step set b h =
       let n = bracket ◌+◌ e b s in
       let d = same-deal set e h.value [] n.live (ranged-bracket b h) in
       ap (deal wrapped set e) (same_bracket b h) ∙ (λ i. record { done = n.done; live = d i; counts = n.counts })
 
-pub edge_post : (m : Machine) (e : Pulse) (b : Bracket) (r : Machine) → r ≡ step_on wrapped standard e b m → EdgePost m e b r
+pub edge_post : (m : Machine) (e : Pulse) (b : Option Pulse) (r : Machine) → r ≡ step_on wrapped standard e b m → EdgePost m e b r
 edge_post m e b r h =
     record {
       total = h;

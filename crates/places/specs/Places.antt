@@ -1,13 +1,11 @@
 -- Four places, what the code does to them, and the places that hold a list of open replies.
-use Rattle.std.specs.Prelude.{ℕ, zero, suc, ◌+◌, Bool, true, false, not, ◌&&◌, ◌||◌, cond, List, [], ◌∷◌}
+use Rattle.std.specs.Prelude.{ℕ, zero, suc, ◌+◌, Bool, true, false, not, ◌&&◌, ◌||◌, cond, List, [], ◌∷◌, Option, Some, None}
 use Rattle.rules.specs.declared.Reply.{Reply}
 use Rattle.rules.specs.declared.Slot.{Slot}
 use Rattle.rules.specs.declared.Slot.TheVariants.{Idle, Open}
 use Rattle.rules.specs.declared.Place.{Place}
 use Rattle.places.specs.Four.{Places, Machine}
 use Rattle.rules.specs.declared.Pulse.{Pulse}
-use Rattle.rules.specs.declared.Bracket.{Bracket}
-use Rattle.rules.specs.declared.Bracket.TheVariants.{Without, With}
 use Rattle.rules.specs.declared.Fate.{Fate}
 use Rattle.rules.specs.declared.Fate.TheVariants.{Sidelobe, Garbled, Lost, Opens}
 use Rattle.rules.specs.Settings.{Settings}
@@ -145,12 +143,12 @@ module _ (plus : ℕ → ℕ → ℕ) where
         counts = tally plus (fate_in e f2 ks) (count_in_lem (is_phantom e.tick.0) m.places) m.counts;
       }
 
-  abbrev pub bracket_if : Pulse → Bracket → Machine → Machine
-  bracket_if e Without m = m
-  bracket_if e (With f) m = bracket_on e f m
+  abbrev pub bracket_if : Pulse → Option Pulse → Machine → Machine
+  bracket_if e None m = m
+  bracket_if e (Some f) m = bracket_on e f m
 
   -- the edge e, where the bracket b stands, if one does
-  unfoldable pub step_on : Settings → Pulse → Bracket → Machine → Machine
+  unfoldable pub step_on : Settings → Pulse → Option Pulse → Machine → Machine
   unfolding bracket_on dealt
   step_on set e b m =
       let n = bracket_if e b m in

@@ -1,8 +1,6 @@
 -- What an edge makes of a machine: by the places for every machine, and by the rules for the machine of a state.
-use Rattle.std.specs.Prelude.{ℕ, ◌+◌, ◌≤◌, ◌<◌, ◌≡◌, length}
+use Rattle.std.specs.Prelude.{ℕ, ◌+◌, ◌≤◌, ◌<◌, ◌≡◌, length, Option, Some, None}
 use Rattle.rules.specs.declared.Pulse.{Pulse}
-use Rattle.rules.specs.declared.Bracket.{Bracket}
-use Rattle.rules.specs.declared.Bracket.TheVariants.{Without, With}
 use Rattle.rules.specs.declared.Counts.{Counts}
 use Rattle.places.specs.Four.{Machine}
 use Rattle.rules.specs.Settings.{standard}
@@ -21,19 +19,19 @@ pub record Small (c : Counts) : Type 0 where
   pub lost : c.lost < 32768
   pub phantoms : c.phantoms < 32768
 
-abbrev pub f2_value : Bracket → ℕ
-f2_value Without = 0
-f2_value (With f) = f.value
+abbrev pub f2_value : Option Pulse → ℕ
+f2_value None = 0
+f2_value (Some f) = f.value
 
 -- The numbers of a state, an edge and its bracket are such that sums of 16 bits are those of the rules.
-pub record Fits (e : Pulse) (b : Bracket) (s : State) : Type 0 where
+pub record Fits (e : Pulse) (b : Option Pulse) (s : State) : Type 0 where
   pub four : length s.live ≤ 4
   pub ranged : All Ranged s.live
   pub counts : Small s.counts
   pub value : e.value ≤ 255
   pub second : f2_value b ≤ 255
 
-pub record EdgePost (m : Machine) (e : Pulse) (b : Bracket) (r : Machine) : Type 0 where
+pub record EdgePost (m : Machine) (e : Pulse) (b : Option Pulse) (r : Machine) : Type 0 where
   -- for every machine
   pub total : r ≡ step_on wrapped standard e b m
   -- for the machine of a state: the machine of the state that the rules give

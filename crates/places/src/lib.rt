@@ -1,27 +1,14 @@
 // The four places in order of F1, the idle ones last, and the counts.
 #![tactic(auto)]
 
-ghost use Rattle.std.specs.Prelude.{◌≡◌, ◌||◌, cond, replicate};
+ghost use Rattle.std.specs.Prelude.{◌≡◌, replicate};
 ghost use Rattle.replies.specs.Sums.{wrapped};
-ghost use Rattle.rules.specs.Machine.{start, opened_by_lem, tally};
-ghost use Rattle.places.specs.Places.{any3 as any3', idle};
+ghost use Rattle.rules.specs.Machine.{opened_by_lem, tally};
+ghost use Rattle.places.specs.Places.{idle};
 
-use replies::{pick, plus, wide};
 use rules::{Counts, Estimate, Fate, Marks, Place, Pulse, Reference, Reply, Slot, Word};
 
 // ---- the four places
-
-pub fn any3(a: bool, b: bool, c: bool) -> bool
-    ensures { result ≡ any3' a b c }
-{
-    a | (b | c)
-}
-
-pub fn any4(a: bool, b: bool, c: bool, d: bool) -> bool
-    ensures { result ≡ (a || any3' b c d) }
-{
-    a | (b | (c | d))
-}
 
 // Four idle places.
 pub fn no_places() -> [Place; 4]
@@ -33,26 +20,14 @@ pub fn no_places() -> [Place; 4]
 
 // ---- brackets
 
-fn pick_pulse(c: bool, a: Pulse, b: Pulse) -> Pulse
-    ensures { result ≡ cond c a b }
-{
-    if c {
-        return a;
-    }
-    b
-}
-
 pub fn opened_by(covered: bool, suspect: bool, military: bool, e: Pulse, f2: Pulse) -> Reply
     ensures { result ≡ opened_by_lem covered suspect military e f2 }
 {
-    let p = pick_pulse(covered, f2, e);
-    let v = p.value;
-    let s = wide(v);
-    let b = pick(covered, 8192, 0);
-    let n = pick(covered & !f2.main, 8192, 0);
-    let f1 = e.tick;
+    let p = if covered { f2 } else { e };
+    let settled = if covered { 8192 } else { 0 };
+    let unsure = if covered & !f2.main { 8192 } else { 0 };
     Reply {
-        f1,
+        f1: e.tick,
         marks: Marks {
             suspect,
             military,
@@ -60,14 +35,14 @@ pub fn opened_by(covered: bool, suspect: bool, military: bool, e: Pulse, f2: Pul
             main: p.main,
         },
         word: Word {
-            settled: b,
-            code: b,
-            unsure: n,
+            settled,
+            code: settled,
+            unsure,
         },
         reference: Reference {
-            estimate: Estimate::Lone(v as f64),
+            estimate: Estimate::Lone(f64::from(p.value)),
             n: 1,
-            s,
+            s: u16::from(p.value),
         },
     }
 }
@@ -75,68 +50,31 @@ pub fn opened_by(covered: bool, suspect: bool, military: bool, e: Pulse, f2: Pul
 pub fn tallied(fate: Fate, p: u16, c: Counts) -> Counts
     ensures { result ≡ tally wrapped fate p c }
 {
-    let found = plus(c.found, 1);
+    let found = c.found.wrapping_add(1);
+    let phantoms = c.phantoms.wrapping_add(p);
     match fate {
-        Fate::Sidelobe => {
-            let sidelobe = plus(c.sidelobe, 1);
-            Counts {
-                found,
-                opened: c.opened,
-                sidelobe,
-                garbled: c.garbled,
-                lost: c.lost,
-                phantoms: c.phantoms,
-            }
-        }
-        Fate::Garbled => {
-            let garbled = plus(c.garbled, 1);
-            let phantoms = plus(c.phantoms, p);
-            Counts {
-                found,
-                opened: c.opened,
-                sidelobe: c.sidelobe,
-                garbled,
-                lost: c.lost,
-                phantoms,
-            }
-        }
-        Fate::Lost => {
-            let lost = plus(c.lost, 1);
-            let phantoms = plus(c.phantoms, p);
-            Counts {
-                found,
-                opened: c.opened,
-                sidelobe: c.sidelobe,
-                garbled: c.garbled,
-                lost,
-                phantoms,
-            }
-        }
-        Fate::Opens => {
-            let opened = plus(c.opened, 1);
-            let phantoms = plus(c.phantoms, p);
-            Counts {
-                found,
-                opened,
-                sidelobe: c.sidelobe,
-                garbled: c.garbled,
-                lost: c.lost,
-                phantoms,
-            }
-        }
-    }
-}
-
-// Nothing counted.
-pub fn no_counts() -> Counts
-    ensures { result ≡ start.counts }
-{
-    Counts {
-        found: 0,
-        opened: 0,
-        sidelobe: 0,
-        garbled: 0,
-        lost: 0,
-        phantoms: 0,
+        Fate::Sidelobe => Counts {
+            found,
+            sidelobe: c.sidelobe.wrapping_add(1),
+            ..c
+        },
+        Fate::Garbled => Counts {
+            found,
+            garbled: c.garbled.wrapping_add(1),
+            phantoms,
+            ..c
+        },
+        Fate::Lost => Counts {
+            found,
+            lost: c.lost.wrapping_add(1),
+            phantoms,
+            ..c
+        },
+        Fate::Opens => Counts {
+            found,
+            opened: c.opened.wrapping_add(1),
+            phantoms,
+            ..c
+        },
     }
 }

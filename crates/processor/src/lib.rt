@@ -8,7 +8,7 @@ ghost use Rattle.processor.specs.State.{idle_processor, running_processor};
 ghost use Rattle.processor.specs.Arrays.{listed, progress_of_lem, processor_at};
 
 use front::words::{Front, no_front};
-use places::{no_counts, no_places};
+use places::no_places;
 use rules::{Counts, Opening, Place};
 
 // With mode 0 no sweep is open. `recent` holds the values of the last 256 ticks, the newest last. The open replies stand in the four places in order of F1, then
@@ -33,7 +33,7 @@ pub fn begun(opening: Opening) -> Processor
         front: no_front(),
         recent: [0u8; 256],
         places: no_places(),
-        counts: no_counts(),
+        counts: Counts::default(),
     }
 }
 
@@ -69,13 +69,11 @@ pub fn all_four(p: [Place; 4]) -> [Place; 4]
 pub fn progress_of(p: Processor) -> Progress
     ensures { result ≡ progress_of_lem p }
 {
-    let front = p.front;
     let places = p.places;
-    let counts = p.counts;
     Progress {
-        front,
+        front: p.front,
         places,
-        counts,
+        counts: p.counts,
         at: 0,
     }
 }
@@ -84,16 +82,13 @@ pub fn progress_of(p: Processor) -> Progress
 pub fn moved(p: Processor, y: Progress, recent: [u8; 256], taken: u32) -> Processor
     ensures { result ≡ processor_at p y recent taken }
 {
-    let opening = p.opening;
-    let front = y.front;
     let places = y.places;
-    let counts = y.counts;
     Processor {
-        opening,
+        opening: p.opening,
         taken,
-        front,
+        front: y.front,
         recent,
-        places: all_four(places),
-        counts,
+        places,
+        counts: y.counts,
     }
 }

@@ -8,8 +8,7 @@ use lib.Dec.{eqb}
 use lib.ListN.{length, get_or, drop, length-map, get_or-map}
 use lib.Seq.{ext_get_or}
 use Rattle.rules.specs.declared.Pulse.{Pulse}
-use Rattle.rules.specs.declared.Bracket.{Bracket}
-use Rattle.rules.specs.declared.Bracket.TheVariants.{Without, With}
+use Rattle.std.proofs.Common.{Option, Some, None}
 use Rattle.rules.specs.Settings.{Settings, Allowed}
 use Rattle.rules.specs.Samples.{Trace, A, P, N, M, odd}
 use Rattle.rules.specs.Edges.{Kind, no_edge, actual, lead, falls, age, trail_within, kinds, since, age_at, kind_at, Edge, stands, edge_at}
@@ -224,9 +223,9 @@ module _ (plus : ℕ → ℕ → ℕ) (set : Settings) (E E' : ℕ → Edge) (al
   same_bracket : (u : ℕ) → bracket_at G u ≡ bracket_at G' u
   unfolding bracket_at
   same_bracket u =
-      let last = same-done With {x = Without} {y = Without} refl (E (u + 169)) (E' (u + 169)) (alike (u + 169)) in
-      let next = same-done With last (E (u + 167)) (E' (u + 167)) (alike (u + 167)) in
-      same-done With (ap (cond (eqb set.tolerance 0) Without) next) (E (u + 168)) (E' (u + 168)) (alike (u + 168))
+      let last = same-done Some {x = None} {y = None} refl (E (u + 169)) (E' (u + 169)) (alike (u + 169)) in
+      let next = same-done Some last (E (u + 167)) (E' (u + 167)) (alike (u + 167)) in
+      same-done Some (ap (cond (eqb set.tolerance 0) None) next) (E (u + 168)) (E' (u + 168)) (alike (u + 168))
 
   -- a tick does the same to the state
   same_step : (u : ℕ) (s : State) → step plus G u s ≡ step plus G' u s
@@ -234,7 +233,7 @@ module _ (plus : ℕ → ℕ → ℕ) (set : Settings) (E E' : ℕ → Edge) (al
   same_step u s =
       let t = retired u s in
       same-done (λ (p : Pulse). edge_step plus set p (bracket_at G u) t) {x = t} {y = t} refl (E u) (E' u) (alike u)
-      ∙ ap (λ (b : Bracket). cond (stands (E' u)) (edge_step plus set (E' u).pulse b t) t) (same_bracket u)
+      ∙ ap (λ (b : Option Pulse). cond (stands (E' u)) (edge_step plus set (E' u).pulse b t) t) (same_bracket u)
 
   -- the state after n ticks is the same
   same_after : (n : ℕ) → after plus G n ≡ after plus G' n

@@ -38,12 +38,6 @@ module _ (l : List ℕ) (i : ℕ) where
   unfolding over-at
   put_two a b h = simp towards_suc (simp towards_suc at (sets-eq (a ∷ b ∷ []) l i h))
 
-  pub put-eight : (a b c d e f g k : ℕ) → i + 8 ≤ length l
-      → set (set (set (set (set (set (set (set l i a) (i + 1) b) (i + 2) c) (i + 3) d) (i + 4) e) (i + 5) f) (i + 6) g) (i + 7) k
-      ≡ over-at (a ∷ b ∷ c ∷ d ∷ e ∷ f ∷ g ∷ k ∷ []) i l
-  unfolding over-at
-  put-eight a b c d e f g k h = simp towards_suc (simp towards_suc at (sets-eq (a ∷ b ∷ c ∷ d ∷ e ∷ f ∷ g ∷ k ∷ []) l i h))
-
 -- no bytes written
 pub over-at-nil : (at : ℕ) (b : List ℕ) → over-at [] at b ≡ b
 unfolding over-at

@@ -6,8 +6,7 @@ use mathlib.Core.Bool.{Bool, true, false, cond}
 use mathlib.Core.List.{List, [], ◌∷◌, ◌++◌}
 use Rattle.rules.specs.declared.Reply.{Reply}
 use Rattle.rules.specs.declared.Pulse.{Pulse}
-use Rattle.rules.specs.declared.Bracket.{Bracket}
-use Rattle.rules.specs.declared.Bracket.TheVariants.{Without, With}
+use Rattle.std.proofs.Common.{Option, Some, None}
 use Rattle.rules.specs.declared.Fate.{Fate}
 use Rattle.rules.specs.declared.Fate.TheVariants.{Sidelobe, Garbled, Lost, Opens}
 use Rattle.rules.specs.Settings.{Settings}
@@ -41,11 +40,11 @@ module _ (P : Reply → Type 0) where
   each_after Lost l ks r h k f = k
   each_after Opens l ks r h k f = all_append P ks (r ∷ []) k (f refl, tt)
 
-  each_bracket : (e : Pulse) (b : Bracket) → ((f : Pulse) → b ≡ With f → (ks : List Reply) → fate e f ks ≡ Opens → P (opened e f ks)) → (s : State)
+  each_bracket : (e : Pulse) (b : Option Pulse) → ((f : Pulse) → b ≡ Some f → (ks : List Reply) → fate e f ks ≡ Opens → P (opened e f ks)) → (s : State)
       → Each P s → Each P (bracket ◌+◌ e b s)
   unfolding bracket
-  each_bracket e Without begins s h = h
-  each_bracket e (With f) begins s h =
+  each_bracket e None begins s h = h
+  each_bracket e (Some f) begins s h =
       let ks = reject (is_phantom e.tick.0) s.live in
       record {
         done = h.done;
@@ -59,7 +58,7 @@ module _ (P : Reply → Type 0) where
     each_deal e keeps before (r ∷ l) h = (keeps (any (speaks set e) (before ++ l)) r h.0, each_deal e keeps (before ++ (r ∷ [])) l h.1)
 
   module _ (G : Given) (keeps : (u : ℕ) (other : Bool) (r : Reply) → P r → P (hear ◌+◌ G.settings (G.edge u).pulse other r))
-      (begins : (u : ℕ) → stands (G.edge u) ≡ true → (f : Pulse) → bracket_at G u ≡ With f → (ks : List Reply) → fate (G.edge u).pulse f ks ≡ Opens → P (opened (G.edge u).pulse f ks)) where
+      (begins : (u : ℕ) → stands (G.edge u) ≡ true → (f : Pulse) → bracket_at G u ≡ Some f → (ks : List Reply) → fate (G.edge u).pulse f ks ≡ Opens → P (opened (G.edge u).pulse f ks)) where
     each_step : (u : ℕ) (s : State) → Each P s → Each P (step ◌+◌ G u s)
     unfolding step edge_step deal
     each_step u s h = go (stands (G.edge u)) refl

@@ -12,7 +12,7 @@ use Rattle.rules.specs.declared.Estimate.{Estimate}
 use Rattle.rules.specs.declared.Marks.{Marks}
 use Rattle.rules.specs.declared.Reply.{Reply}
 use Rattle.rules.specs.declared.Pulse.{Pulse}
-use Rattle.rules.specs.declared.Bracket.TheVariants.{Without, With}
+use Rattle.std.proofs.Common.{Some, None}
 use Rattle.rules.specs.declared.Fate.TheVariants.{Opens}
 use Rattle.rules.specs.Settings.{Settings, Allowed}
 use Rattle.rules.specs.Lists.{any, All}
@@ -39,15 +39,15 @@ pub data Framing (G : Given) (u : ℕ) (f : Pulse) : Type 0 where
   at167 : stands (G.edge (u + 167)) ≡ true → f ≡ (G.edge (u + 167)).pulse → Framing G u f
   at169 : stands (G.edge (u + 169)) ≡ true → f ≡ (G.edge (u + 169)).pulse → Framing G u f
 
-with_same : (f g : Pulse) → With f ≡ With g → g ≡ f
+with_same : (f g : Pulse) → Some f ≡ Some g → g ≡ f
 with_same f g e = cc
 
-pub framing : (G : Given) (u : ℕ) (f : Pulse) → bracket_at G u ≡ With f → Framing G u f
+pub framing : (G : Given) (u : ℕ) (f : Pulse) → bracket_at G u ≡ Some f → Framing G u f
 unfolding bracket_at
 framing G u f = go (stands (G.edge (u + 168))) (eqb G.settings.tolerance 0) (stands (G.edge (u + 167))) (stands (G.edge (u + 169))) refl refl refl
   where
     go : (a t b c : Bool) → stands (G.edge (u + 168)) ≡ a → stands (G.edge (u + 167)) ≡ b → stands (G.edge (u + 169)) ≡ c
-        → cond a (With (G.edge (u + 168)).pulse) (cond t Without (cond b (With (G.edge (u + 167)).pulse) (cond c (With (G.edge (u + 169)).pulse) Without))) ≡ With f → Framing G u f
+        → cond a (Some (G.edge (u + 168)).pulse) (cond t None (cond b (Some (G.edge (u + 167)).pulse) (cond c (Some (G.edge (u + 169)).pulse) None))) ≡ Some f → Framing G u f
     go true t b c p q r e = at168 p (with_same (G.edge (u + 168)).pulse f e)
     go false true b c p q r e = absurd (let z : ◌≡◌ {A = ℕ} 0 1 = cc in omega arith)
     go false false true c p q r e = at167 q (with_same (G.edge (u + 167)).pulse f e)

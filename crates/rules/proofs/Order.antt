@@ -10,8 +10,7 @@ use lib.ListN.{length, length-append}
 use borrow.Author.Tests.{leb-false, ltb-false, le-ltb}
 use Rattle.rules.specs.declared.Reply.{Reply}
 use Rattle.rules.specs.declared.Pulse.{Pulse}
-use Rattle.rules.specs.declared.Bracket.{Bracket}
-use Rattle.rules.specs.declared.Bracket.TheVariants.{Without, With}
+use Rattle.std.proofs.Common.{Option, Some, None}
 use Rattle.rules.specs.declared.Fate.{Fate}
 use Rattle.rules.specs.declared.Fate.TheVariants.{Sidelobe, Garbled, Lost, Opens}
 use Rattle.rules.specs.Settings.{Settings}
@@ -130,16 +129,16 @@ pub opened-f1 : (e f : Pulse) (ks : List Reply) → (opened e f ks).f1 ≡ e.tic
 unfolding opened opened_by_lem
 opened-f1 e f ks = refl
 
-rising_bracket : (e : Pulse) (b : Bracket) (s : State) → Rising 0 e.tick.0 (replies s) → Rising 0 (e.tick.0 + 1) (replies (bracket ◌+◌ e b s))
+rising_bracket : (e : Pulse) (b : Option Pulse) (s : State) → Rising 0 e.tick.0 (replies s) → Rising 0 (e.tick.0 + 1) (replies (bracket ◌+◌ e b s))
 unfolding bracket
-rising_bracket e Without s h = rising_later 0 e.tick.0 (e.tick.0 + 1) (omega arith) (replies s) h
-rising_bracket e (With f) s h =
+rising_bracket e None s h = rising_later 0 e.tick.0 (e.tick.0 + 1) (omega arith) (replies s) h
+rising_bracket e (Some f) s h =
     let u = e.tick.0 in
     let ks = reject (is_phantom u) s.live in
     rising_swap u (u + 1) s.done s.live (live_after (fate e f ks) s.live ks (opened e f ks))
     (rising_after (fate e f ks) u (is_phantom u) s.live (opened e f ks) (ap (λ t. t.0) (opened-f1 e f ks))) 0 h
 
-rising_edge : (set : Settings) (e : Pulse) (b : Bracket) (s : State) → Rising 0 e.tick.0 (replies s) → Rising 0 (e.tick.0 + 1) (replies (edge_step ◌+◌ set e b s))
+rising_edge : (set : Settings) (e : Pulse) (b : Option Pulse) (s : State) → Rising 0 e.tick.0 (replies s) → Rising 0 (e.tick.0 + 1) (replies (edge_step ◌+◌ set e b s))
 unfolding edge_step deal
 rising_edge set e b s h =
     let t = bracket ◌+◌ e b s in
@@ -157,14 +156,14 @@ after-short true true l ks r h k = go (leb 4 (length ks)) refl
     go true q = omega arith
     go false q = omega (arith, length-append ks (r ∷ []), leb-false 4 (length ks) q)
 
-pub bracket-short : (e : Pulse) (b : Bracket) (s : State) → length s.live ≤ 4 → length (bracket ◌+◌ e b s).live ≤ 4
+pub bracket-short : (e : Pulse) (b : Option Pulse) (s : State) → length s.live ≤ 4 → length (bracket ◌+◌ e b s).live ≤ 4
 unfolding bracket fate
-bracket-short e Without s h = h
-bracket-short e (With f) s h =
+bracket-short e None s h = h
+bracket-short e (Some f) s h =
     let ks = reject (is_phantom e.tick.0) s.live in
     after-short (e.main || f.main) (clear e f ks) s.live ks (opened e f ks) h (reject_short (is_phantom e.tick.0) s.live)
 
-pub edge-short : (set : Settings) (e : Pulse) (b : Bracket) (s : State) → length s.live ≤ 4 → length (edge_step ◌+◌ set e b s).live ≤ 4
+pub edge-short : (set : Settings) (e : Pulse) (b : Option Pulse) (s : State) → length s.live ≤ 4 → length (edge_step ◌+◌ set e b s).live ≤ 4
 unfolding edge_step deal
 edge-short set e b s h = omega (arith, deal-length set e [] (bracket ◌+◌ e b s).live, bracket-short e b s h)
 
@@ -187,7 +186,7 @@ module _ (G : Given) (timed : Timed G) where
         four = omega (arith, h.four, reject_short (ended u) s.live);
       }
 
-  ordered_edge : (u : ℕ) (b : Bracket) (s : State) → Ordered u s → Ordered (suc u) (edge_step ◌+◌ G.settings (G.edge u).pulse b s)
+  ordered_edge : (u : ℕ) (b : Option Pulse) (s : State) → Ordered u s → Ordered (suc u) (edge_step ◌+◌ G.settings (G.edge u).pulse b s)
   ordered_edge u b s h =
       let e = (G.edge u).pulse in
       let q = timed.tick u in

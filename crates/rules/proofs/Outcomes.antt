@@ -8,8 +8,7 @@ use mathlib.Core.List.{List, [], ◌∷◌, ◌++◌}
 use lib.ListN.{length, length-append}
 use Rattle.rules.specs.declared.Reply.{Reply}
 use Rattle.rules.specs.declared.Pulse.{Pulse}
-use Rattle.rules.specs.declared.Bracket.{Bracket}
-use Rattle.rules.specs.declared.Bracket.TheVariants.{Without, With}
+use Rattle.std.proofs.Common.{Option, Some, None}
 use Rattle.rules.specs.declared.Fate.{Fate}
 use Rattle.rules.specs.declared.Fate.TheVariants.{Sidelobe, Garbled, Lost, Opens}
 use Rattle.rules.specs.Settings.{Settings}
@@ -43,10 +42,10 @@ tally_balanced Garbled ks p r s e h = omega arith
 tally_balanced Lost ks p r s e h = omega arith
 tally_balanced Opens ks p r s e h = omega (arith, length-append ks (r ∷ []))
 
-bracket_balanced : (e : Pulse) (b : Bracket) (s : State) → Balanced s → Balanced (bracket ◌+◌ e b s)
+bracket_balanced : (e : Pulse) (b : Option Pulse) (s : State) → Balanced s → Balanced (bracket ◌+◌ e b s)
 unfolding bracket
-bracket_balanced e Without s h = h
-bracket_balanced e (With f) s h =
+bracket_balanced e None s h = h
+bracket_balanced e (Some f) s h =
     let p = is_phantom e.tick.0 in
     let ks = reject p s.live in
     tally_balanced (fate e f ks) ks (count p s.live) (opened e f ks) s (count_split p s.live) h
@@ -56,7 +55,7 @@ module _ (set : Settings) where
   deal-length e before [] = refl
   deal-length e before (r ∷ l) = ap suc (deal-length e (before ++ (r ∷ [])) l)
 
-  edge_balanced : (e : Pulse) (b : Bracket) (s : State) → Balanced s → Balanced (edge_step ◌+◌ set e b s)
+  edge_balanced : (e : Pulse) (b : Option Pulse) (s : State) → Balanced s → Balanced (edge_step ◌+◌ set e b s)
   unfolding edge_step deal
   edge_balanced e b s h =
       let t = bracket ◌+◌ e b s in
@@ -70,10 +69,10 @@ module _ (set : Settings) where
   tally-found Lost p s = refl
   tally-found Opens p s = refl
 
-  edge-found : (e : Pulse) (b : Bracket) (s : State) → (edge_step ◌+◌ set e b s).counts.found ≡ s.counts.found + cond (is_bracket b) 1 0
+  edge-found : (e : Pulse) (b : Option Pulse) (s : State) → (edge_step ◌+◌ set e b s).counts.found ≡ s.counts.found + cond (is_bracket b) 1 0
   unfolding edge_step deal bracket
-  edge-found e Without s = omega arith
-  edge-found e (With f) s =
+  edge-found e None s = omega arith
+  edge-found e (Some f) s =
       let p = is_phantom e.tick.0 in
       tally-found (fate e f (reject p s.live)) (count p s.live) s
 

@@ -12,8 +12,7 @@ use lib.ListN.{length, length-append}
 use borrow.Author.Tests.{le-leb, lt-leb, leb-true, leb-false, ltb-true, ltb-false}
 use Rattle.rules.specs.declared.Reply.{Reply}
 use Rattle.rules.specs.declared.Pulse.{Pulse}
-use Rattle.rules.specs.declared.Bracket.{Bracket}
-use Rattle.rules.specs.declared.Bracket.TheVariants.{Without, With}
+use Rattle.std.proofs.Common.{Option, Some, None}
 use Rattle.rules.specs.declared.Fate.{Fate}
 use Rattle.rules.specs.declared.Fate.TheVariants.{Sidelobe, Garbled, Lost, Opens}
 use Rattle.rules.specs.Settings.{Settings, Allowed}
@@ -71,10 +70,10 @@ young_after Garbled u p l r e h = all_reject (Young u) p l h
 young_after Lost u p l r e h = all_reject (Young u) p l h
 young_after Opens u p l r e h = all_append (Young u) (reject p l) (r ∷ []) (all_reject (Young u) p l h) (record { young = omega arith }, tt)
 
-aged_bracket : (e : Pulse) (b : Bracket) (s : State) → Aged e.tick.0 s → Aged e.tick.0 (bracket ◌+◌ e b s)
+aged_bracket : (e : Pulse) (b : Option Pulse) (s : State) → Aged e.tick.0 s → Aged e.tick.0 (bracket ◌+◌ e b s)
 unfolding bracket
-aged_bracket e Without s h = h
-aged_bracket e (With f) s h =
+aged_bracket e None s h = h
+aged_bracket e (Some f) s h =
     let u = e.tick.0 in
     let ks = reject (is_phantom u) s.live in
     record {
@@ -83,10 +82,10 @@ aged_bracket e (With f) s h =
     }
 
 -- an edge leaves the done replies alone
-pub edge-done : (set : Settings) (e : Pulse) (b : Bracket) (s : State) → (edge_step ◌+◌ set e b s).done ≡ s.done
+pub edge-done : (set : Settings) (e : Pulse) (b : Option Pulse) (s : State) → (edge_step ◌+◌ set e b s).done ≡ s.done
 unfolding edge_step deal bracket
-edge-done set e Without s = refl
-edge-done set e (With f) s = refl
+edge-done set e None s = refl
+edge-done set e (Some f) s = refl
 
 module _ (set : Settings) where
   young_deal : (u : ℕ) (e : Pulse) (before l : List Reply) → All (Young u) l → All (Young u) (deal_from ◌+◌ set e before l)
@@ -95,7 +94,7 @@ module _ (set : Settings) where
       (rw (hear-f1 set e (any (speaks set e) (before ++ l)) r) (record { young = h.0.young }), young_deal u e (before ++ (r ∷ [])) l h.1)
 
 module _ (G : Given) (timed : Timed G) where
-  aged_edge : (u : ℕ) (b : Bracket) (s : State) → Aged u s → Aged u (edge_step ◌+◌ G.settings (G.edge u).pulse b s)
+  aged_edge : (u : ℕ) (b : Option Pulse) (s : State) → Aged u s → Aged u (edge_step ◌+◌ G.settings (G.edge u).pulse b s)
   unfolding edge_step deal
   aged_edge u b s h =
       let e = (G.edge u).pulse in

@@ -10,8 +10,7 @@ use lib.ListN.{length, length-append}
 use borrow.Author.Tests.{leb-true, leb-false, ltb-true, lt-ltb, le-ltb}
 use Rattle.rules.specs.declared.Reply.{Reply}
 use Rattle.rules.specs.declared.Pulse.{Pulse}
-use Rattle.rules.specs.declared.Bracket.{Bracket}
-use Rattle.rules.specs.declared.Bracket.TheVariants.{Without}
+use Rattle.std.proofs.Common.{Option, None}
 use Rattle.rules.specs.Settings.{Settings}
 use Rattle.rules.specs.Lists.{any, filter, reject, All}
 use Rattle.rules.specs.Samples.{bit}
@@ -91,7 +90,7 @@ module _ (set : Settings) (e : Pulse) where
 module _ (G : Given) (timed : Timed G) where
   -- where l are the open replies: no edge stands at t, or one without a bracket that none of them covers
   abbrev pub Passed : List Reply → ℕ → Type 0
-  Passed l t = stands (G.edge t) ≡ true → (bracket_at G t ≡ Without) × All (λ r. covers t r ≡ false) l
+  Passed l t = stands (G.edge t) ≡ true → (bracket_at G t ≡ None) × All (λ r. covers t r ≡ false) l
 
   plain_step : (u : ℕ) (s : State) → Passed (retired u s).live u → step ◌+◌ G u s ≡ retired u s
   unfolding step edge_step bracket deal
@@ -101,7 +100,7 @@ module _ (G : Given) (timed : Timed G) where
       go false e = refl
       go true e =
           let n = subst (λ (v : ℕ). All (λ r. covers v r ≡ false) (retired u s).live) (sym (timed.tick u)) (h e).1 in
-          ap (λ (b : Bracket). edge_step ◌+◌ G.settings (G.edge u).pulse b (retired u s)) (h e).0
+          ap (λ (b : Option Pulse). edge_step ◌+◌ G.settings (G.edge u).pulse b (retired u s)) (h e).0
           ∙ (λ i. record { done = (retired u s).done; live = deal-none G.settings (G.edge u).pulse [] (retired u s).live n i; counts = (retired u s).counts })
 
   passed-less : (u v t : ℕ) (s : State) → Passed s.live t → Passed (retired v (retired u s)).live t

@@ -11,8 +11,7 @@ use borrow.Author.Tests.{le-leb, lt-leb, leb-true, leb-false, lt-ltb, ltb-true, 
 use Rattle.rules.specs.declared.Tick.{Tick}
 use Rattle.rules.specs.declared.Reply.{Reply}
 use Rattle.rules.specs.declared.Pulse.{Pulse}
-use Rattle.rules.specs.declared.Bracket.{Bracket}
-use Rattle.rules.specs.declared.Bracket.TheVariants.{Without, With}
+use Rattle.std.proofs.Common.{Option, Some, None}
 use Rattle.rules.specs.Settings.{Settings}
 use Rattle.rules.specs.Lists.{any, filter, reject, count, All}
 use Rattle.rules.specs.Edges.{stands}
@@ -69,10 +68,10 @@ after_spaced true true u p d l r e o h = go (leb 4 (length (reject p l))) refl
     go true q = spaced_reject p d l h
     go false q = spaced_snoc u d (reject p l) r e o (omega (arith, leb-false 4 (length (reject p l)) q)) (spaced_reject p d l h)
 
-spaced_bracket : (e : Pulse) (b : Bracket) (s : State) → All (Old (suc e.tick.0)) s.done → Spaced (replies s) → Spaced (replies (bracket ◌+◌ e b s))
+spaced_bracket : (e : Pulse) (b : Option Pulse) (s : State) → All (Old (suc e.tick.0)) s.done → Spaced (replies s) → Spaced (replies (bracket ◌+◌ e b s))
 unfolding bracket fate
-spaced_bracket e Without s o h = h
-spaced_bracket e (With f) s o h =
+spaced_bracket e None s o h = h
+spaced_bracket e (Some f) s o h =
     let u = e.tick.0 in
     let ks = reject (is_phantom u) s.live in
     after_spaced (e.main || f.main) (clear e f ks) u (is_phantom u) s.done s.live (opened e f ks) (ap (λ t. t.0) (opened-f1 e f ks)) o h
@@ -88,7 +87,7 @@ module _ (set : Settings) where
       count-cons (in_span a 206) (hear ◌+◌ set e other r) r (deal_from ◌+◌ set e (before ++ (r ∷ [])) l) l
       (ap (λ (t : Tick). leb a t.0 && ltb t.0 (a + 206)) (hear-f1 set e other r)) (deal-count a e (before ++ (r ∷ [])) l)
 
-  spaced_edge : (e : Pulse) (b : Bracket) (s : State) → All (Old (suc e.tick.0)) s.done → Spaced (replies s) → Spaced (replies (edge_step ◌+◌ set e b s))
+  spaced_edge : (e : Pulse) (b : Option Pulse) (s : State) → All (Old (suc e.tick.0)) s.done → Spaced (replies s) → Spaced (replies (edge_step ◌+◌ set e b s))
   unfolding edge_step deal
   spaced_edge e b s o h =
       let t = bracket ◌+◌ e b s in

@@ -1,13 +1,11 @@
 -- Brackets and the plain machine. The open replies are a list in order of F1.
 use Prim.Native.Nat.{ℕ, zero, suc, ◌+◌, ◌^◌}
-use Rattle.std.specs.Prelude.{Bool, true, false, ◌&&◌, ◌||◌, leb, eqb, length}
+use Rattle.std.specs.Prelude.{Bool, true, false, ◌&&◌, ◌||◌, leb, eqb, length, Option, Some, None}
 use Rattle.std.proofs.Math.Bool.{not, cond}
 use mathlib.Core.List.{List, [], ◌∷◌, ◌++◌}
 use Rattle.rules.specs.declared.Reply.{Reply}
 use Rattle.rules.specs.declared.Pulse.{Pulse}
 use Rattle.rules.specs.declared.Counts.{Counts}
-use Rattle.rules.specs.declared.Bracket.{Bracket}
-use Rattle.rules.specs.declared.Bracket.TheVariants.{Without, With}
 use Rattle.rules.specs.declared.Fate.{Fate}
 use Rattle.rules.specs.declared.Fate.TheVariants.{Sidelobe, Garbled, Lost, Opens}
 use Rattle.rules.specs.Settings.{Settings}
@@ -43,21 +41,21 @@ retired u s = record { done = s.done ++ filter (ended u) s.live; live = reject (
 
 -- "A bracket stands at edge u if an edge stands at u+168; else at u+167; else at u+169. The first found is its F2; u is its F1."
 -- The three edges are those at u+168, u+167 and u+169.
-unfoldable pub bracket_of : Settings → Edge → Edge → Edge → Bracket
+unfoldable pub bracket_of : Settings → Edge → Edge → Edge → Option Pulse
 bracket_of set e₁₆₈ e₁₆₇ e₁₆₉ =
-    cond (stands e₁₆₈) (With e₁₆₈.pulse)
-    (cond (eqb set.tolerance 0) Without
-    (cond (stands e₁₆₇) (With e₁₆₇.pulse)
-    (cond (stands e₁₆₉) (With e₁₆₉.pulse)
-    Without)))
+    cond (stands e₁₆₈) (Some e₁₆₈.pulse)
+    (cond (eqb set.tolerance 0) None
+    (cond (stands e₁₆₇) (Some e₁₆₇.pulse)
+    (cond (stands e₁₆₉) (Some e₁₆₉.pulse)
+    None)))
 
-abbrev pub is_bracket : Bracket → Bool
-is_bracket Without = false
-is_bracket (With f) = true
+abbrev pub is_bracket : Option Pulse → Bool
+is_bracket None = false
+is_bracket (Some f) = true
 
 module _ (G : Given) where
   -- the bracket at an edge at u, if one stands there
-  unfoldable pub bracket_at : ℕ → Bracket
+  unfoldable pub bracket_at : ℕ → Option Pulse
   unfolding bracket_of
   bracket_at u = bracket_of G.settings (G.edge (u + 168)) (G.edge (u + 167)) (G.edge (u + 169))
 
@@ -132,10 +130,10 @@ module _ (plus : ℕ → ℕ → ℕ) where
       record { found = plus c.found 1; opened = plus c.opened 1; sidelobe = c.sidelobe; garbled = c.garbled; lost = c.lost; phantoms = plus c.phantoms p }
 
   -- "If a bracket stands at u, "found" rises, and these are tried in order". "2. Each open potential phantom [..] is removed: one phantom each."
-  unfoldable pub bracket : Pulse → Bracket → State → State
+  unfoldable pub bracket : Pulse → Option Pulse → State → State
   unfolding fate opened is_phantom
-  bracket e Without s = s
-  bracket e (With f) s =
+  bracket e None s = s
+  bracket e (Some f) s =
       let ks = reject (is_phantom e.tick.0) s.live in
       record {
         done = s.done;
@@ -155,7 +153,7 @@ module _ (plus : ℕ → ℕ → ℕ) where
     deal e s = record { done = s.done; live = deal_from e [] s.live; counts = s.counts }
 
     -- the edge e, where the bracket b stands, if one does
-    unfoldable pub edge_step : Pulse → Bracket → State → State
+    unfoldable pub edge_step : Pulse → Option Pulse → State → State
     unfolding bracket deal
     edge_step e b s = deal e (bracket e b s)
 

@@ -15,11 +15,13 @@ pub struct Range(pub u32);
 // What a sweep is opened with: mode 1 (A), 2 (2) or 3 (C), and an azimuth from 0 to 16,383 for the whole sweep.
 #[derive(Clone, Copy)]
 pub struct Opening {
+    // Stays: a number and no enum, since `open` (crates/sweep) answers for every number: refusal 1 where it names no mode.
     pub mode: u8,
     pub azimuth: u16,
 }
 
 // The reference of a lone pulse (N = 1), or an average (N of 2 or more).
+// Stays: a form that document 01 names (docs/DECISIONS.md, "The forms that document 01 names").
 #[derive(Clone, Copy)]
 pub enum Estimate {
     Lone(f64),
@@ -60,6 +62,7 @@ pub struct Reply {
     pub reference: Reference,
 }
 
+// Stays: of the shape of an Option, but document 01 names this form, an enum of idle, or open with a reply.
 #[derive(Clone, Copy)]
 pub enum Slot {
     Idle,
@@ -67,13 +70,14 @@ pub enum Slot {
 }
 
 // One of the four decoders.
+// Stays: a struct of one field, since document 01 names four place structs, each with such an enum.
 #[derive(Clone, Copy)]
 pub struct Place {
     pub slot: Slot,
 }
 
 // Brackets found, and what became of them: replies opened, sidelobe, garbled, lost. Of the replies opened, phantoms were removed.
-#[derive(Clone, Copy)]
+#[derive(Clone, Copy, Default)]
 pub struct Counts {
     pub found: u16,
     pub opened: u16,
@@ -89,13 +93,6 @@ pub struct Pulse {
     pub tick: Tick,
     pub main: bool,
     pub value: u8,
-}
-
-// The F2 of the bracket at an edge, if one stands there.
-#[derive(Clone, Copy)]
-pub enum Bracket {
-    Without,
-    With(Pulse),
 }
 
 // What becomes of a bracket.

@@ -1,8 +1,5 @@
--- What an edge makes of a reply that covers it: the laws behind `position_of`, `taken_in` and `hear`.
-use Rattle.std.proofs.Common.{◌≡◌, ℕ, zero, suc, ◌+◌, ◌-◌, ◌*◌, ◌/◌, ◌%◌, ◌^◌, ◌<◌, ◌≤◌, Bool, true, false, cond, ◌&&◌, eqb, leb, [], ◌∷◌, get_or, sym, refl, ap, ◌∙◌, arith, eqb-true, leb-true}
-use lib.Ieee.{Float, nan}
-use Rattle.rules.specs.declared.Estimate.{Estimate}
-use Rattle.rules.specs.declared.Estimate.TheVariants.{Lone, Average}
+-- What an edge makes of a reply that covers it: the laws behind `hear` and `heard`.
+use Rattle.std.proofs.Common.{◌≡◌, ℕ, ◌+◌, ◌-◌, ◌*◌, ◌/◌, ◌%◌, ◌^◌, ◌<◌, ◌≤◌, Bool, true, false, cond, ◌&&◌, eqb, leb, sym, refl, ap, ◌∙◌, arith, eqb-true, leb-true}
 use Rattle.rules.specs.declared.Word.{Word}
 use Rattle.rules.specs.declared.Reference.{Reference}
 use Rattle.rules.specs.declared.Reply.{Reply}
@@ -10,13 +7,13 @@ use Rattle.rules.specs.declared.Pulse.{Pulse}
 use Rattle.rules.specs.declared.Slot.{Slot}
 use Rattle.rules.specs.declared.Slot.TheVariants.{Idle, Open}
 use Rattle.rules.specs.declared.Place.{Place}
-use Rattle.places.specs.Places.{test, test_slot, position_slot, hear_slot_at, hear_at}
-use Rattle.rules.specs.Replies.{Verdict, f1, position, is_position, covers, level, verdict, takes, settle, average, heard_at, bit_of}
+use Rattle.places.specs.Places.{test, test_slot, position_slot, hear_at}
+use Rattle.rules.specs.Replies.{Verdict, f1, position, is_position, covers, verdict, takes, settle, average, heard_at, bit_of}
 use Rattle.rules.proofs.Truth.{impossible, and_left}
 use Rattle.replies.specs.Sums.{wrapped, word_plus}
 use Rattle.replies.proofs.ReplyLaws.{settle_law}
 use Rattle.masks.specs.Masks.{covers_from}
-use Rattle.settling.specs.Hearing.{position_number, place_of, position_of_bit, goes_to, fresh_in, kind_of, estimate_of_lem, hear_by}
+use Rattle.settling.specs.Hearing.{position_number, place_of, position_of_bit, goes_to, fresh_in, hear_by}
 use Rattle.settling.specs.Deals.{goes_to_slot, heard_by, hearing}
 use Rattle.settling.proofs.FreshBits.{place-position, position-place, fresh-digit, fresh-bit}
 
@@ -53,12 +50,6 @@ near_by q u h = (
   far_off ((u + 1 - q) / 12) (ap is_position (sym (covers-position q u h)) ∙ h),
 )
 
--- with d for u + 1 - q in 64 bits
-pub number_law : (q u d : ℕ) → q < 2 ^ 32 → u < 2 ^ 32 → d < 2 ^ 64 → (d + q) % 2 ^ 64 ≡ u + 1 → d % 256 / 12 ≡ position_number q u
-number_law q u d lq lu ld e =
-    let z : d % 256 ≡ (u + 1 + 2 ^ 32 - q) % 256 = omega (arith, e) in
-    ap (λ (x : ℕ). x / 12) z
-
 low_bits : (x y : ℕ) → x / 12 ≤ 17 → y ≡ x + 2 ^ 32 → y % 256 ≡ x
 low_bits x y h e =
     let l : x < 256 = omega arith in
@@ -85,26 +76,6 @@ sure_digit true true g h eg eh = ap (λ (z : ℕ). eqb z 1) (eh ∙ eg)
 sure_digit true false g h eg eh = ap (λ (z : ℕ). eqb z 1) eh
 sure_digit false true g h eg eh = ap (λ (z : ℕ). eqb z 1) (eh ∙ eg)
 sure_digit false false g h eg eh = ap (λ (z : ℕ). eqb z 1) eh
-
-pub digit-most : (s : Bool) (g h : ℕ) → g < 2 → h ≡ cond s g 0 → h < 2
-digit-most true g h l e = omega (arith, e)
-digit-most false g h l e = omega (arith, e)
-
--- ---- the reference
-
-estimate_back : (e : Estimate) → estimate_of_lem (kind_of e) (level e) ≡ e
-estimate_back (Lone x) = refl
-estimate_back (Average x) = refl
-
--- with x and y for the two levels, k for the kind, a for the estimate that is chosen
-pub taken_law : (f : Reference) (h v : ℕ) → h < 2 → (g : Reference) → g ≡ average wrapped f v → (x y : Float) → x ≡ level f.estimate → y ≡ level g.estimate → (i j k : ℕ)
-    → i ≡ kind_of g.estimate → j ≡ kind_of f.estimate → k ≡ cond (eqb h 1) i j → (a : Estimate) → a ≡ estimate_of_lem k (get_or (x ∷ y ∷ []) h nan) → (n s : ℕ) → n ≡ cond (eqb h 1) g.n f.n
-    → s ≡ cond (eqb h 1) g.s f.s → record { estimate = a; n = n; s = s } ≡ cond (eqb h 1) (average wrapped f v) f
-taken_law f zero v l g eg x y ex ey i j k ei ej ek a ea n s en es =
-    λ z. record { estimate = (ea ∙ (λ t. estimate_of_lem ((ek ∙ ej) t) (ex t)) ∙ estimate_back f.estimate) z; n = en z; s = es z }
-taken_law f (suc zero) v l g eg x y ex ey i j k ei ej ek a ea n s en es =
-    (λ z. record { estimate = (ea ∙ (λ t. estimate_of_lem ((ek ∙ ei) t) (ey t)) ∙ estimate_back g.estimate) z; n = en z; s = es z }) ∙ eg
-taken_law f (suc (suc h)) v l g eg x y ex ey i j k ei ej ek a ea n s en es = absurd (omega (arith, l))
 
 -- ---- the reply
 
@@ -153,16 +124,6 @@ heard_law r e own other fit k ek p ep g eg code sure ec es c n h ed en eh a ea b
     (λ i. record { f1 = r.f1; marks = r.marks; word = word i; reference = reference i }) ∙ both T K e W r
 
 -- ---- the place
-
-abbrev slot_heard : Pulse → Bool → Bool → Slot → Slot
-slot_heard e own other s = hear_slot_at wrapped (goes_to_slot e.tick.0 s) e (verdict e.main own other) s
-
-pub idle_law : (e : Pulse) (own other : Bool) (p : Place) → p.slot ≡ Idle → record { slot = Idle } ≡ heard_by e own other p
-idle_law e own other p h = λ i. record { slot = slot_heard e own other (sym h i) }
-
-pub open_law : (e : Pulse) (own other : Bool) (p : Place) (r : Reply) → p.slot ≡ Open r → (y : Reply) → y ≡ hear_by (goes_to (f1 r) e.tick.0) e (verdict e.main own other) r
-    → record { slot = Open y } ≡ heard_by e own other p
-open_law e own other p r h y ey = (λ i. record { slot = Open (ey i) }) ∙ (λ i. record { slot = slot_heard e own other (sym h i) })
 
 -- what a place that covers the edge makes of it
 pub covered_law : (e : Pulse) (own other : Bool) (p : Place) → test (covers e.tick.0) p ≡ true → heard_by e own other p ≡ hearing e own other p

@@ -7,15 +7,14 @@ ghost use Rattle.replies.specs.Sums.{wrapped};
 ghost use Rattle.settling.specs.Hearing.{position_number, goes_to, place_of, fresh_in, kind_of, estimate_of_lem, hear_by};
 ghost use Rattle.settling.specs.Deals.{heard_by};
 
-use replies::{average, choose, code_of, level_of, pick, settle_bit, sure_of};
+use replies::{average, choose, code_of, level_of, settle_bit, sure_of};
 use rules::{Estimate, Place, Pulse, Reference, Reply, Slot, Tick};
 
 // The position of a reply with F1 at q that covers u, where one does; else a number up to 21.
 fn position_of(q: Tick, u: Tick) -> u32
     ensures { result ≡ position_number q.0 u.0 }
 {
-    let d = std::num::wrapping_sub_u64(u.0 as u64 + 1, q.0 as u64);
-    (d % 256 / 12) as u32
+    u.0.wrapping_add(1).wrapping_sub(q.0) % 256 / 12
 }
 
 // The number of the bit of position k; 15 for position 0, which no edge settles.
@@ -59,36 +58,31 @@ fn taken_in(f: Reference, h: u16, v: u8) -> Reference
     ensures { result ≡ (if nat_eq h 1 then average' wrapped f v else f) }
 {
     let g = average(f, v);
-    let e = f.estimate;
-    let d = g.estimate;
-    let levels = [level_of(e), level_of(d)];
-    let kind = choose(h, kind_of(d), kind_of(e));
-    let estimate = estimate_of(kind, levels[h as usize]);
-    let n = choose(h, g.n, f.n);
-    let s = choose(h, g.s, f.s);
-    Reference { estimate, n, s }
+    let levels = [level_of(f.estimate), level_of(g.estimate)];
+    let kind = choose(h, kind_of(g.estimate), kind_of(f.estimate));
+    Reference {
+        estimate: estimate_of(kind, levels[usize::from(h)]),
+        n: choose(h, g.n, f.n),
+        s: choose(h, g.s, f.s),
+    }
 }
 
 // The reply after the edge e goes to it; by whether it agrees, and another does.
 fn hear(r: Reply, e: Pulse, own: bool, other: bool) -> Reply
     ensures { result ≡ hear_by (goes_to r.f1.0 e.tick.0) e (verdict e.main own other) r }
 {
-    let q = r.f1;
-    let w = r.word;
-    let f = r.reference;
-    let p = place(position_of(q, e.tick));
-    let h = fresh(w.settled, p);
+    let p = place(position_of(r.f1, e.tick));
+    let h = fresh(r.word.settled, p);
     let b = h << p;
     let code = code_of(e.main, own, other);
     let sure = sure_of(e.main, own, other);
-    let word = settle_bit(w, b, pick(code, b, 0), pick(sure, 0, b));
-    let reference = taken_in(f, pick(sure, h, 0), e.value);
-    let marks = r.marks;
+    let ones = if code { b } else { 0 };
+    let unsure = if sure { 0 } else { b };
+    let taken = if sure { h } else { 0 };
     Reply {
-        f1: q,
-        marks,
-        word,
-        reference,
+        word: settle_bit(r.word, b, ones, unsure),
+        reference: taken_in(r.reference, taken, e.value),
+        ..r
     }
 }
 
@@ -96,14 +90,10 @@ fn hear(r: Reply, e: Pulse, own: bool, other: bool) -> Reply
 pub fn heard(p: Place, e: Pulse, own: bool, other: bool) -> Place
     ensures { result ≡ heard_by e own other p }
 {
-    let s = p.slot;
-    match s {
-        Slot::Idle => Place { slot: Slot::Idle },
-        Slot::Open(r) => {
-            let y = hear(r, e, own, other);
-            Place {
-                slot: Slot::Open(y),
-            }
-        }
+    match p.slot {
+        Slot::Idle => p,
+        Slot::Open(r) => Place {
+            slot: Slot::Open(hear(r, e, own, other)),
+        },
     }
 }

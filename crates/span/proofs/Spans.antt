@@ -9,7 +9,7 @@ use lib.Bits.{bit_and, bit_or, or_lt}
 use lib.Dec.{eqb}
 use lib.ListN.{length}
 use borrow.Author.Tests.{eqb-true, eqb-false}
-use Rattle.rules.specs.declared.Bracket.TheVariants.{Without, With}
+use Rattle.std.proofs.Common.{Some, None}
 use Rattle.rules.specs.Settings.{standard}
 use Rattle.rules.specs.Samples.{Trace, M}
 use Rattle.rules.specs.Edges.{stands, edge_at}
@@ -135,7 +135,7 @@ module _ (a b i : ℕ) (la : a < 2 ^ 64) (lb : b < 2 ^ 64) (li : i < 64) where
       go false false f g h = refl
 
 module _ (s : Span) (i u : ℕ) (recent : List ℕ) (base : ℕ) (values : List ℕ) where
-  pub bracket-none : (r : Bool) → r ≡ has_bracket_lem s i → r ≡ false → Without ≡ bracket_in s i u recent base values
+  pub bracket-none : (r : Bool) → r ≡ has_bracket_lem s i → r ≡ false → None ≡ bracket_in s i u recent base values
   unfolding bracket_in
   bracket-none r e off =
       let h = sym e ∙ off in
@@ -144,25 +144,25 @@ module _ (s : Span) (i u : ℕ) (recent : List ℕ) (base : ℕ) (values : List 
 
   bracket_by : (a b c main : Bool) (d v : ℕ) → a ≡ bit s.at168 i → b ≡ bit s.at167 i → c ≡ bit s.at169 i → (a || (b || c)) ≡ true
       → main ≡ cond a (bit s.main168 i) (cond b (bit s.main167 i) (bit s.main169 i)) → d ≡ cond a 168 (cond b 167 169) → v ≡ value_of recent base values (u + d + 1)
-      → With (record { tick = record { 0 = u + d }; main = main; value = v }) ≡ bracket_in s i u recent base values
+      → Some (record { tick = record { 0 = u + d }; main = main; value = v }) ≡ bracket_in s i u recent base values
   unfolding bracket_in
   bracket_by true b c main d v ea eb ec there em ed ev =
       let z : u + d + 1 ≡ u + 169 = omega arith in
       let q = ev ∙ ap (value_of recent base values) z in
-      rw (sym ea) (λ j. With (record { tick = record { 0 = u + ed j }; main = em j; value = q j }))
+      rw (sym ea) (λ j. Some (record { tick = record { 0 = u + ed j }; main = em j; value = q j }))
   bracket_by false true c main d v ea eb ec there em ed ev =
       let z : u + d + 1 ≡ u + 168 = omega arith in
       let q = ev ∙ ap (value_of recent base values) z in
-      rw (sym ea, sym eb) (λ j. With (record { tick = record { 0 = u + ed j }; main = em j; value = q j }))
+      rw (sym ea, sym eb) (λ j. Some (record { tick = record { 0 = u + ed j }; main = em j; value = q j }))
   bracket_by false false true main d v ea eb ec there em ed ev =
       let z : u + d + 1 ≡ u + 170 = omega arith in
       let q = ev ∙ ap (value_of recent base values) z in
-      rw (sym ea, sym eb, sym ec) (λ j. With (record { tick = record { 0 = u + ed j }; main = em j; value = q j }))
+      rw (sym ea, sym eb, sym ec) (λ j. Some (record { tick = record { 0 = u + ed j }; main = em j; value = q j }))
   bracket_by false false false main d v ea eb ec there em ed ev = absurd (impossible (sym there))
 
   pub bracket_there : (r main : Bool) (d v : ℕ) → r ≡ has_bracket_lem s i → r ≡ true
       → main ≡ cond (bit s.at168 i) (bit s.main168 i) (cond (bit s.at167 i) (bit s.main167 i) (bit s.main169 i)) → d ≡ cond (bit s.at168 i) 168 (cond (bit s.at167 i) 167 169)
-      → v ≡ value_of recent base values (u + d + 1) → With (record { tick = record { 0 = u + d }; main = main; value = v }) ≡ bracket_in s i u recent base values
+      → v ≡ value_of recent base values (u + d + 1) → Some (record { tick = record { 0 = u + d }; main = main; value = v }) ≡ bracket_in s i u recent base values
   bracket_there r main d v e on em ed ev =
       bracket_by (bit s.at168 i) (bit s.at167 i) (bit s.at169 i) main d v refl refl refl (sym e ∙ on) em ed ev
 

@@ -1,11 +1,9 @@
 -- The 64 ticks u from t-242 on that the machine can work once t ticks are taken, as words: edges at u; edges at u+168, u+167, u+169; M of each.
-use Rattle.std.specs.Prelude.{ℕ, ◌+◌, ◌-◌, ◌^◌, ◌≤◌, ◌<◌, Bool, false, ◌||◌, cond, List, ◌≡◌, length}
+use Rattle.std.specs.Prelude.{ℕ, ◌+◌, ◌-◌, ◌^◌, ◌≤◌, ◌<◌, Bool, false, ◌||◌, cond, List, ◌≡◌, length, Option, Some, None}
 use Rattle.std.specs.Int.Bits.{bit_and, bit_or}
 use Rattle.rules.specs.Samples.{M}
 use Rattle.plane.specs.Words.{bit, Holds}
 use Rattle.rules.specs.declared.Pulse.{Pulse}
-use Rattle.rules.specs.declared.Bracket.{Bracket}
-use Rattle.rules.specs.declared.Bracket.TheVariants.{Without, With}
 use Rattle.edges.specs.Planes.{has_edge}
 use Rattle.front.specs.declared.words.Front.{Front}
 use Rattle.front.specs.Words.{padded, front_of}
@@ -41,13 +39,13 @@ abbrev pub has_bracket_lem : Span → ℕ → Bool
 has_bracket_lem s i = bit s.at168 i || (bit s.at167 i || bit s.at169 i)
 
 -- the bracket at tick u, which is tick i of the span: its F2, if it has one
-unfoldable pub bracket_in : Span → ℕ → ℕ → List ℕ → ℕ → List ℕ → Bracket
+unfoldable pub bracket_in : Span → ℕ → ℕ → List ℕ → ℕ → List ℕ → Option Pulse
 unfolding bit value_of
 bracket_in s i u recent base values =
-    cond (bit s.at168 i) (With (pulse_in s.main168 i (u + 168) (value_of recent base values (u + 169))))
-    (cond (bit s.at167 i) (With (pulse_in s.main167 i (u + 167) (value_of recent base values (u + 168))))
-    (cond (bit s.at169 i) (With (pulse_in s.main169 i (u + 169) (value_of recent base values (u + 170))))
-    Without))
+    cond (bit s.at168 i) (Some (pulse_in s.main168 i (u + 168) (value_of recent base values (u + 169))))
+    (cond (bit s.at167 i) (Some (pulse_in s.main167 i (u + 167) (value_of recent base values (u + 168))))
+    (cond (bit s.at169 i) (Some (pulse_in s.main169 i (u + 169) (value_of recent base values (u + 170))))
+    None))
 
 -- the bits of x from 64-r on
 pub record TopPost (x r y : ℕ) : Type 0 where

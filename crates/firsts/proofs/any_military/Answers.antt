@@ -1,5 +1,6 @@
 -- `firsts::any_military` meets its contract.
 use Rattle.rules.specs.Replies.{military}
+use Rattle.places.proofs.PlaceLaws.{four-in-turn}
 use Rattle.firsts.proofs.FirstLaws.{any_law}
 use Rattle.firsts.proofs.any_military.Goals as goal
 
@@ -10,4 +11,4 @@ returns c =
     let makesmilitary2 = c.makes_military-2 in
     let makesmilitary = c.makes_military in
     let a = c.args in
-    any_law (military a.u.0) a.f makesmilitary.result makesmilitary2.result makesmilitary3.result makesmilitary4.result c.any4.result makesmilitary.ensures makesmilitary2.ensures makesmilitary3.ensures makesmilitary4.ensures c.any4.ensures
+    any_law (military a.u.0) a.f makesmilitary.result makesmilitary2.result makesmilitary3.result makesmilitary4.result _ makesmilitary.ensures makesmilitary2.ensures makesmilitary3.ensures makesmilitary4.ensures (four-in-turn makesmilitary.result makesmilitary2.result makesmilitary3.result makesmilitary4.result)

@@ -1,31 +1,26 @@
 -- `handing::hand_one` meets its contract.
-use mathlib.Core.Path.{sym, refl, ◌∙◌}
-use native.Mathlib.Omega.{arith}
+use Rattle.std.proofs.Common.{sym, refl, ◌∙◌, arith}
 use Rattle.handing.proofs.Handing.{hand_idle, hand_open, hand_short, hand_done}
+use Rattle.handing.proofs.hand_one.Goals.{then-not-ended-via-then-not-ended, then-not-ended-via-else-not-ended+then-saturating_sub-lt-RECORD}
 use Rattle.handing.proofs.hand_one.Goals as goal
+
+pub returns-in_default : goal.returns-in_default
+returns-in_default c =
+    let a = c.args in
+    hand_idle a.u.0 a.at a.out.now a.p.slot c.in_default.is
 
 pub returns-then-not-ended : goal.returns-then-not-ended
 returns-then-not-ended c =
-    let args = c.args in
-    hand_open args.u.0 args.at args.out.now args.p.slot _ c.in-Open.is (sym (c.ended.ensures _ refl) ∙ c.if-not-ended.true)
+    let a = c.args in
+    let over = sym (c.ended.ensures _ refl) in
+    elim c.then-not-ended.branch [
+      | then-not-ended-via-then-not-ended w ↦ hand_open a.u.0 a.at a.out.now a.p.slot _ c.in-Open.is (over ∙ w.if-not-ended.true)
+      | then-not-ended-via-else-not-ended+then-saturating_sub-lt-RECORD w ↦
+          hand_short a.u.0 a.at a.out.now a.p.slot _ c.in-Open.is (over ∙ w.if-not-ended.false) (omega (arith, w.saturating_sub.ensures, w.if-saturating_sub-lt-RECORD.true))
+    ]
 
-pub returns-then-len-at : goal.returns-then-len-at
-returns-then-len-at c =
-    let args = c.args in
-    hand_short args.u.0 args.at args.out.now args.p.slot _ c.in-Open.is (sym (c.ended.ensures _ refl) ∙ c.if-not-ended.false) (omega arith)
-
-pub returns-then-len-at-lt-RECORD : goal.returns-then-len-at-lt-RECORD
-returns-then-len-at-lt-RECORD c =
-    let args = c.args in
-    hand_short args.u.0 args.at args.out.now args.p.slot _ c.in-Open.is (sym (c.ended.ensures _ refl) ∙ c.if-not-ended.false) (omega arith)
-
-pub returns-in-Idle : goal.returns-in-Idle
-returns-in-Idle c =
-    let args = c.args in
-    hand_idle args.u.0 args.at args.out.now args.p.slot c.in-Idle.is
-
-pub returns-else-len-at-lt-RECORD : goal.returns-else-len-at-lt-RECORD
-returns-else-len-at-lt-RECORD c =
-    let args = c.args in
-    hand_done args.u.0 args.at args.out.now args.p.slot _ c.in-Open.is (sym (c.ended.ensures _ refl) ∙ c.if-not-ended.false)
-    (omega (arith, c.if-len-at.false, c.if-len-at-lt-RECORD.false)) c.write_record.new.out c.write_record.ensures
+pub returns : goal.returns
+returns c =
+    let a = c.args in
+    hand_done a.u.0 a.at a.out.now a.p.slot _ c.in-Open.is (sym (c.ended.ensures _ refl) ∙ c.if-not-ended.false)
+    (omega (arith, c.saturating_sub.ensures, c.if-saturating_sub-lt-RECORD.false)) c.write_record.new.out c.write_record.ensures

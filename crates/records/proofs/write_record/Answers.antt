@@ -1,65 +1,24 @@
 -- `records::write_record` meets its contract.
+use Rattle.std.proofs.Common.{◌≡◌, ℕ, ◌%◌, List, [], ◌∷◌, ap, ◌∙◌, arith}
 use lib.Ieee.{binary64, to_bits}
-use mathlib.Core.Path.{ap, ◌∙◌}
-use native.Mathlib.Omega.{arith}
-use Rattle.records.proofs.Writing.{written}
+use Rattle.rules.specs.Records.{bytes}
+use Rattle.rules.proofs.Buffers.{bytes_one, bytes-two, bytes-eight}
+use Rattle.records.proofs.Writing.{two_bytes, written}
 use Rattle.records.proofs.write_record.Goals as goal
-
-pub overflow_add-at-5 : goal.overflow_add-at-5
-overflow_add-at-5 c =
-    let pre = c.requires in
-    let good = c.well_formed in
-    let put2 = c.put2 in
-    let put22 = c.put2-2 in
-    let put23 = c.put2-3 in
-    let put1 = c.put1 in
-    let put12 = c.put1-2 in
-    omega (arith, pre, good, put2.auto, put22.auto, put23.auto, put1.auto, put12.auto)
-
-pub overflow_add-at-6 : goal.overflow_add-at-6
-overflow_add-at-6 c =
-    let pre = c.requires in
-    let good = c.well_formed in
-    let put2 = c.put2 in
-    let put22 = c.put2-2 in
-    let put23 = c.put2-3 in
-    let put1 = c.put1 in
-    let put12 = c.put1-2 in
-    let put24 = c.put2-4 in
-    omega (arith, pre, good, put2.auto, put22.auto, put23.auto, put1.auto, put12.auto, put24.auto)
-
-pub put8-requires : goal.put8-requires
-put8-requires c =
-    let pre = c.requires in
-    let good = c.well_formed in
-    let put2 = c.put2 in
-    let put22 = c.put2-2 in
-    let put23 = c.put2-3 in
-    let put1 = c.put1 in
-    let put12 = c.put1-2 in
-    let put24 = c.put2-4 in
-    omega (arith, pre, good, put2.auto, put22.auto, put23.auto, put1.auto, put12.auto, put24.auto)
 
 pub returns : goal.returns
 returns c =
-    let args = c.args in
-    let pre = c.requires in
-    let range-of = c.range_of-range in
-    let wide = c.wide-code in
-    let confidence-of = c.confidence_of in
-    let wide2 = c.wide-sure in
-    let flags_of = c.flags_of-flags in
-    let wide3 = c.wide-sum in
-    let level-of = c.level_of-x in
-    let bits_of = c.bits_of-bits in
-    let put2 = c.put2 in
-    let put22 = c.put2-2 in
-    let put23 = c.put2-3 in
-    let put1 = c.put1 in
-    let put12 = c.put1-2 in
-    let put24 = c.put2-4 in
-    let put8 = c.put8 in
-    written args.r _ wide.result wide2.result flags_of.result wide3.result bits_of.result
-    (record { range-is = range-of.ensures; code_is = wide.ensures; sure_is = wide2.ensures ∙ confidence-of.ensures; flags-is = flags_of.ensures; sum_is = wide3.ensures; bits_is = bits_of.ensures ∙ ap (to_bits binary64) level-of.ensures })
-    args.at args.out.now (pre) put2.new.out put22.new.out put23.new.out put1.new.out put12.new.out put24.new.out
-    put8.new.out put2.ensures put22.ensures put23.ensures put1.ensures put12.ensures put24.ensures put8.ensures
+    let a = c.args in
+    let f = a.r.reference in
+    let flags : c.flags_of.result % 256 ≡ c.flags_of.result = omega (arith, c.flags_of.type_inv) in
+    written a.r _ _ _ _ _ _ _
+    (record {
+      range-is = c.to_be_bytes.ensures ∙ bytes-two _ ∙ ap (bytes 2) c.range_of-range.ensures ∙ two_bytes _;
+      code_is = c.to_be_bytes-2.ensures ∙ bytes-two _;
+      sure_is = c.to_be_bytes-3.ensures ∙ bytes-two _ ∙ ap (bytes 2) c.confidence_of.ensures;
+      flags-is = rw (← flags) (bytes_one _ ∙ ap (bytes 1) c.flags_of.ensures);
+      count_is = bytes_one f.n;
+      sum_is = c.to_be_bytes-4.ensures ∙ bytes-two _;
+      bits_is = c.to_be_bytes-5.ensures ∙ bytes-eight _ ∙ ap (bytes 8) (c.bits_of-bits.ensures ∙ ap (to_bits binary64) c.level_of.ensures);
+    })
+    a.at a.out.now c.requires _ _ _ _ _ _ _ c.put.ensures c.put-2.ensures c.put-3.ensures c.put-4.ensures c.put-5.ensures c.put-6.ensures c.put-7.ensures

@@ -5,4 +5,4 @@ use Rattle.replies.proofs.averaged.Goals as goal
 
 pub returns : goal.returns
 unfolding averaged
-returns c = rw half
+returns c = rw (half, c.from.ensures)

@@ -1,9 +1,7 @@
-use Rattle.std.proofs.Common.{ap}
-use Rattle.rules.specs.declared.Tick.{Tick}
-use Rattle.replies.proofs.ReplyLaws.{ended_is}
+-- `replies::ended` meets its contract.
+use Rattle.rules.specs.Replies.{ended}
 use Rattle.replies.proofs.ended.Goals as goal
 
 pub returns : goal.returns
-returns c =
-    let a = c.args in
-    λ r e. ended_is a.q.0 a.u.0 r (ap (λ (q : Tick). q.0) e)
+unfolding ended
+returns c = λ r e. rw (e, c.from.ensures, c.from-2.ensures)

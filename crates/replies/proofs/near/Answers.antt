@@ -5,4 +5,4 @@ use Rattle.replies.proofs.near.Goals as goal
 
 pub returns : goal.returns
 unfolding near
-returns c = rw eight
+returns c = rw (eight, c.from-y.ensures)
