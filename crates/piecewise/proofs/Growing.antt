@@ -1,5 +1,6 @@
 -- A list of calls grows by one: by a take that nothing turns down, or by the close. Everything that is known of processor, replies and totals comes from
 -- the theorem over lists of calls.
+use Rattle.std.specs.Result.{result_unwrap_or}
 use Prim.Native.Nat.{ℕ, ◌+◌, ◌-◌, ◌*◌, ◌/◌, ◌≤◌}
 use native.Mathlib.Omega.{arith}
 use mathlib.Core.Path.{◌≡◌, refl, sym, ap, ap₂, ◌∙◌, subst}
@@ -29,7 +30,7 @@ use Rattle.calls.specs.Whole.{Call, taking, closing, Meets, Chain, piece_by, joi
 use Rattle.calls.proofs.Calls.{demand_3}
 use Rattle.takes.proofs.Pieces.{over-rest, mid_is, post_is}
 use Rattle.takes.proofs.Taking.{over-more, handed-most}
-use Rattle.piecewise.specs.Post.{count_in_lem, Calls}
+use Rattle.piecewise.specs.Post.{Calls}
 use Rattle.piecewise.proofs.Lists.{chain_more, last_more, joined-more, handed-more, totals-more}
 
 -- ---- buffers
@@ -101,8 +102,8 @@ module _ (ω : Opening) (opens : open_answer ω ≡ accepted) where
         buffer-is : m' ≡ over (records F) m
         buffer-is = post.buffer (running ω T) made ∙ ap (λ (v : Answer). take_buffer_as v (running ω T) P m) accepts
 
-        pub count-is : count_in_lem r.answer ≡ length F
-        count-is = ap (λ (t : Answered). count_in_lem t.answer) result-is
+        pub count-is : result_unwrap_or r.answer 0 ≡ length F
+        count-is = ap (λ (t : Answered). result_unwrap_or t.answer 0) result-is
 
         handed-is : handed_by r.answer m' ≡ records F
         handed-is = ap (λ (t : Answered). handed_by t.answer m') result-is ∙ ap (first_records (length F)) buffer-is ∙ first-records F m
@@ -114,7 +115,7 @@ module _ (ω : Opening) (opens : open_answer ω ≡ accepted) where
         unfolding take_answer_at
         fits = omega (arith, h.inside, size, (took true (length T.flags) P (length b - at) clear).fits, fresh-most standard T P)
 
-        pub take_more : Calls ω (T ⧺ P) b₀ r.processor (at + record_size * count_in_lem r.answer) (put_mid at (length b - at) b m')
+        pub take_more : Calls ω (T ⧺ P) b₀ r.processor (at + record_size * result_unwrap_or r.answer 0) (put_mid at (length b - at) b m')
         take_more =
             record {
               calls = h.calls ++ (c ∷ []);
@@ -150,10 +151,10 @@ module _ (ω : Opening) (opens : open_answer ω ≡ accepted) where
         left_is : m' ≡ over (records R) cm
         left_is = post.buffer (running ω T) made ∙ ap (λ (v : Answer). close_buffer_as v (running ω T) cm) close-accepts
 
-        left-count : count_in_lem x.answer ≡ length R
-        left-count = ap (λ (t : Closed). count_in_lem t.answer) closed_is
+        left-count : result_unwrap_or x.answer 0 ≡ length R
+        left-count = ap (λ (t : Closed). result_unwrap_or t.answer 0) closed_is
 
-        pub left_few : count_in_lem x.answer ≤ most_left
+        pub left_few : result_unwrap_or x.answer 0 ≤ most_left
         left_few = omega (arith, left-count, rest-most standard standard_allowed T)
 
         left-handed : handed_by x.answer m' ≡ records R
@@ -190,7 +191,7 @@ module _ (ω : Opening) (opens : open_answer ω ≡ accepted) where
             landed (all_handed_out h.calls) (records R) b₀ b m' at h.buffer h.place h.inside size left_is
             ∙ ap (λ (l : List ℕ). over l b₀) (sym ds_handed ∙ every)
 
-        pub count-all : at / record_size + count_in_lem x.answer ≡ length (replies (final standard T))
+        pub count-all : at / record_size + result_unwrap_or x.answer 0 ≡ length (replies (final standard T))
         count-all =
             omega
             (arith, h.place, left-count, ap length ds_handed, length-append (all_handed_out h.calls) (records R), records-length R, ap length every, records-length (replies (final standard T)))

@@ -1,4 +1,5 @@
 -- The pieces of a trace that nothing turns down: none of their takes is refused, and neither is the close.
+use Rattle.std.specs.Result.{result_unwrap_or}
 use Prim.Native.Nat.{ℕ, ◌+◌, ◌-◌, ◌*◌, ◌/◌, ◌≤◌, min}
 use native.Mathlib.Omega.{arith}
 use mathlib.Core.Path.{◌≡◌, refl, sym, ap, ◌∙◌, subst}
@@ -13,6 +14,7 @@ use Rattle.rules.specs.Lists.{any, All}
 use Rattle.rules.specs.Samples.{Trace, nothing, bad, piece_limit, sweep_limit}
 use Rattle.rules.specs.Settings.{standard}
 use Rattle.rules.specs.Records.{record_size, totals_size}
+use Rattle.rules.specs.declared.Refusal.{Refusal}
 use Rattle.rules.specs.Calls.{Answer, accepted, refused, take_answer, close_answer, take_room, close_room, fresh}
 use Rattle.rules.proofs.ListLaws.{any-first, any-second}
 use Rattle.rules.proofs.HandingOut.{fresh-most}
@@ -27,7 +29,7 @@ use Rattle.takes.specs.Post.{part}
 use Rattle.takes.proofs.Taking.{all_take, all_drop, up_to, between, up_more, up_all}
 use Rattle.whole.proofs.Answering.{Clear, clear}
 use Rattle.piecewise.specs.declared.Swept.{Swept}
-use Rattle.piecewise.specs.Post.{count_in_lem, swept_as, buffer_as, ByCallsPost, Calls}
+use Rattle.piecewise.specs.Post.{swept_as, buffer_as, ByCallsPost, Calls}
 use Rattle.piecewise.proofs.Growing.{none_yet, few, count-is, take_more, left_few, totals_are, buffer-all, count-all}
 
 -- a part of a list with no bad byte has none
@@ -63,9 +65,9 @@ pub record FromOpening (T : Trace) (piece : ℕ) (b₀ : List ℕ) (p₀ p : Pro
   pub pieces : (ω : Opening) → p₀ ≡ (open_of ω).processor → whole_answer ω T piece (length b₀) totals_size ≡ accepted → Pieces ω T b₀ p at i b
 
 -- a sweep is turned down: nothing is written
-pub turned_away : (ω : Opening) (T : Trace) (piece : ℕ) (b : List ℕ) (r : Swept) (n : ℕ) → whole_answer ω T piece (length b) totals_size ≡ refused (record { number = n })
-    → r ≡ swept_as (refused (record { number = n })) T → ByCallsPost ω T piece b r b
-turned_away ω T piece b r n v is =
+pub turned_away : (ω : Opening) (T : Trace) (piece : ℕ) (b : List ℕ) (r : Swept) (k : Refusal) → whole_answer ω T piece (length b) totals_size ≡ refused k
+    → r ≡ swept_as (refused k) T → ByCallsPost ω T piece b r b
+turned_away ω T piece b r k v is =
     record { result = is ∙ ap (λ (x : Answer). swept_as x T) (sym v); buffer = ap (λ (x : Answer). buffer_as x T b) (sym v) }
 
 module _ (ω : Opening) (T : Trace) (piece : ℕ) (b₀ : List ℕ) (ok : whole_answer ω T piece (length b₀) totals_size ≡ accepted) where
@@ -124,10 +126,10 @@ module _ (ω : Opening) (T : Trace) (piece : ℕ) (b₀ : List ℕ) (ok : whole_
       bytes-P : All (λ v. v ≤ 255) (part i end T.values)
       bytes-P = all_take (end - i) (drop i T.values) (all_drop i T.values bytes)
 
-      count : count_in_lem r.answer ≡ length (fresh standard (up_to i T) (between i end T))
+      count : result_unwrap_or r.answer 0 ≡ length (fresh standard (up_to i T) (between i end T))
       count = count-is ω shows.opens (up_to i T) b₀ p at b h.taken h.size (between i end T) r m' post bytes-P accepts
 
-      module _ (k : ℕ) (e : k ≡ count_in_lem r.answer) where
+      module _ (k : ℕ) (e : k ≡ result_unwrap_or r.answer 0) where
         -- the place behind its records is a small number
         pub count_small : at + record_size * k ≤ sweep_limit
         count_small = omega (arith, e, count, fresh-most standard (up_to i T) (between i end T), size-P, here, at_most, h.reach, shows.short)
@@ -135,7 +137,7 @@ module _ (ω : Opening) (T : Trace) (piece : ℕ) (b₀ : List ℕ) (ok : whole_
         pub pieces_next : length (put_mid at (length b - at) b m') ≡ length b → Pieces ω T b₀ r.processor (at + record_size * k) end (put_mid at (length b - at) b m')
         pieces_next l =
             let c = take_more ω shows.opens (up_to i T) b₀ p at b h.taken h.size (between i end T) r m' post bytes-P accepts in
-            let c' = subst (λ (R : Trace). Calls ω R b₀ r.processor (at + record_size * count_in_lem r.answer) (put_mid at (length b - at) b m')) (up_more T i end on) c in
+            let c' = subst (λ (R : Trace). Calls ω R b₀ r.processor (at + record_size * result_unwrap_or r.answer 0) (put_mid at (length b - at) b m')) (up_more T i end on) c in
             record {
               taken = subst (λ (n : ℕ). Calls ω (up_to end T) b₀ r.processor (at + record_size * n) (put_mid at (length b - at) b m')) (sym e) c';
               reach = here;
@@ -157,10 +159,10 @@ module _ (ω : Opening) (T : Trace) (piece : ℕ) (b₀ : List ℕ) (ok : whole_
       unfolding close_answer_at
       close-accepts = close-clear (length b - at) close-room
 
-      pub close_few : count_in_lem x.answer ≤ 8
+      pub close_few : result_unwrap_or x.answer 0 ≤ 8
       close_few = left_few ω shows.opens T b₀ p at b h size x m' post close-accepts
 
-      pub swept_all : (k : ℕ) → k ≡ count_in_lem x.answer → (r : Swept) → r ≡ record { answer = Ok (at / record_size + k); totals = x.totals }
+      pub swept_all : (k : ℕ) → k ≡ result_unwrap_or x.answer 0 → (r : Swept) → r ≡ record { answer = Ok (at / record_size + k); totals = x.totals }
           → ByCallsPost ω T piece b₀ r (put_mid at (length b - at) b m')
       swept_all k e r is =
           let n = ap (λ (j : ℕ). at / record_size + j) e ∙ count-all ω shows.opens T b₀ p at b h size x m' post close-accepts in

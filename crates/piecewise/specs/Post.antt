@@ -6,27 +6,21 @@ use Rattle.rules.specs.Samples.{Trace}
 use Rattle.rules.specs.Buffers.{over}
 use Rattle.rules.specs.Machine.{final}
 use Rattle.rules.specs.Records.{records, replies, totals, totals_size}
-use Rattle.rules.specs.Calls.{Answer as RulesAnswer, accepted, refused}
+use Rattle.rules.specs.Calls.{Answer, accepted, refused}
 use Rattle.processor.specs.declared.Processor.{Processor}
-use Rattle.calls.specs.Answers.{Answer}
 use Rattle.std.specs.Prelude.{Ok, Err}
 use Rattle.calls.specs.Post.{open_of, no_totals_lem}
 use Rattle.calls.specs.Whole.{Call, Chain, last, joined_trace, all_handed_out, all_totals}
 use Rattle.whole_refusals.specs.Whole.{whole_answer}
 use Rattle.piecewise.specs.declared.Swept.{Swept}
 
--- how many records an answer counts: none where a call was turned down
-abbrev pub count_in_lem : Answer → ℕ
-count_in_lem (Ok n) = n
-count_in_lem (Err k) = 0
-
 -- ---- the answer
 
-abbrev pub swept_as : RulesAnswer → Trace → Swept
+abbrev pub swept_as : Answer → Trace → Swept
 swept_as accepted T = record { answer = Ok (length (replies (final standard T))); totals = totals (final standard T) }
 swept_as (refused k) T = record { answer = Err k; totals = no_totals_lem }
 
-abbrev pub buffer_as : RulesAnswer → Trace → List ℕ → List ℕ
+abbrev pub buffer_as : Answer → Trace → List ℕ → List ℕ
 buffer_as accepted T b = over (records (replies (final standard T))) b
 buffer_as (refused k) T b = b
 

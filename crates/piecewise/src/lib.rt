@@ -2,44 +2,33 @@
 // (crates/calls/specs/Whole.antt), for the list of the calls that it makes.
 #![tactic(auto)]
 
-ghost use Rattle.std.specs.Prelude.{◌≡◌, length};
+ghost use Rattle.std.specs.Prelude.{◌≡◌, Err, length};
 ghost use Rattle.rules.specs.Calls.{accepted};
 ghost use Rattle.rules.specs.Records.{totals_size};
 ghost use Rattle.rules.specs.Samples.{lent};
 ghost use Rattle.calls.specs.Post.{no_totals_lem};
-ghost use Rattle.std.specs.Prelude.{Err};
 ghost use Rattle.whole_refusals.specs.Whole.{whole_answer};
-ghost use Rattle.piecewise.specs.Post.{count_in_lem, Calls, ByCallsPost};
+ghost use Rattle.piecewise.specs.Post.{Calls, ByCallsPost};
 
 use calls::Answer;
-use rules::{Opening, RECORD, TOTALS, Totals};
+use rules::{Opening, RECORD, Refusal, TOTALS, Totals};
 use sweep::{close, open, take};
 use takes::{Reached, least};
 use whole_refusals::whole_refusal;
 
-// How many replies were handed out in all, or the number of a refusal; and the totals.
+// How many replies were handed out in all, or the refusal; and the totals.
 #[derive(Clone, Copy)]
 pub struct Swept {
     pub answer: Answer,
     pub totals: Totals,
 }
 
-// How many records an answer counts.
-fn count_of(answer: Answer) -> usize
-    ensures { result ≡ count_in_lem answer }
-{
-    match answer {
-        Answer::Ok(n) => n,
-        Answer::Err(_) => 0,
-    }
-}
-
 // A sweep that is turned down.
-fn turned_down(number: u8) -> Swept
-    ensures { result ≡ record { answer = Err number; totals = no_totals_lem } }
+fn turned_down(refusal: Refusal) -> Swept
+    ensures { result ≡ record { answer = Err refusal; totals = no_totals_lem } }
 {
     Swept {
-        answer: Answer::Err(number),
+        answer: Err(refusal),
         totals: Totals {
             found: 0,
             replies: 0,
@@ -64,8 +53,7 @@ fn take_each(opening: Opening, flags: &[u8], values: &[u8], piece: usize, out: &
     while i < n {
         let end = i + least(piece, n - i);
         let t = take(p, &flags[i..end], &values[i..end], &mut out[at..]);
-        let answer = t.answer;
-        at = at + RECORD * count_of(answer);
+        at = at + RECORD * t.answer.unwrap_or(0);
         p = t.processor;
         i = end;
     }
@@ -86,17 +74,15 @@ fn accepted_sweep(
     let t = take_each(opening, flags, values, piece, out);
     let at = t.at;
     let c = close(t.processor, &mut out[at..]);
-    let answer = c.answer;
-    let totals = c.totals;
-    let count = at / RECORD + count_of(answer);
+    let count = at / RECORD + c.answer.unwrap_or(0);
     Swept {
-        answer: Answer::Ok(count),
-        totals,
+        answer: Ok(count),
+        totals: c.totals,
     }
 }
 
 // Opens a sweep, takes it in pieces of `piece` ticks, and closes it, each by a call of its operation. The records of all replies land at the start of
-// `out`; or the answer is the number of a refusal of a whole sweep, and nothing is written.
+// `out`; or the answer is the refusal of a whole sweep, and nothing is written.
 pub fn sweep_by_calls(
     opening: Opening,
     flags: &[u8],
@@ -107,9 +93,8 @@ pub fn sweep_by_calls(
     ensures { ByCallsPost opening (lent flags.now values.now) piece out.old result out.new }
 {
     let totals = [0u8; TOTALS];
-    let number = whole_refusal(opening, flags, values, piece, out, &totals);
-    if number != 0 {
-        return turned_down(number);
+    match whole_refusal(opening, flags, values, piece, out, &totals) {
+        Err(refusal) => turned_down(refusal),
+        Ok(()) => accepted_sweep(opening, flags, values, piece, out),
     }
-    accepted_sweep(opening, flags, values, piece, out)
 }

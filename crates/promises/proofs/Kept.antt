@@ -64,6 +64,7 @@ kept =
       M = both_sides.M;
       printed-record = both_sides.printed-record;
       printed-totals = both_sides.printed-totals;
+      refusal-numbers = refl;
       open-numbers = open-numbers;
       take_none = take-three;
       take-numbers = take-numbers;

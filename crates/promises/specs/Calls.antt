@@ -1,6 +1,8 @@
--- What is promised of one call: each refusal number of document 01 with the numbers written out, and what an accepted call returns.
+-- What is promised of one call: each refusal of document 01 with the limits written out, and what an accepted call returns.
 use Rattle.std.specs.Prelude.{ℕ, ◌+◌, ◌-◌, ◌*◌, ◌/◌, ◌^◌, ◌≤◌, ◌<◌, true, false, List, ◌⊎◌, ◌≡◌, length}
 use Rattle.rules.specs.declared.Opening.{Opening}
+use Rattle.rules.specs.declared.Refusal.{Refusal}
+use Rattle.rules.specs.declared.Refusal.TheVariants.{Mode, Azimuth, Unequal, PieceLength, SweepLength, NoRoom, BadFlag}
 use Rattle.rules.specs.Settings.{standard}
 use Rattle.rules.specs.Lists.{any}
 use Rattle.rules.specs.Samples.{Trace, nothing, ◌⧺◌, bad}
@@ -18,8 +20,8 @@ use Rattle.calls.specs.declared.Closed.{Closed}
 -- ---- open
 
 pub record OfOpen (ω : Opening) (o : Answered) : Type 0 where
-  pub one : (ω.mode < 1) ⊎ (3 < ω.mode) → o ≡ record { answer = Err 1; processor = idle_processor }
-  pub two : 1 ≤ ω.mode → ω.mode ≤ 3 → 16383 < ω.azimuth → o ≡ record { answer = Err 2; processor = idle_processor }
+  pub one : (ω.mode < 1) ⊎ (3 < ω.mode) → o ≡ record { answer = Err Mode; processor = idle_processor }
+  pub two : 1 ≤ ω.mode → ω.mode ≤ 3 → 16383 < ω.azimuth → o ≡ record { answer = Err Azimuth; processor = idle_processor }
   pub accepts : 1 ≤ ω.mode → ω.mode ≤ 3 → ω.azimuth ≤ 16383 → o ≡ record { answer = Ok 0; processor = running_processor ω nothing }
 
 -- ---- take
@@ -30,18 +32,18 @@ bytes_for n = 72 * ((n + 205) / 206)
 
 module _ (p : Processor) (P : Trace) (b : List ℕ) (r : Answered) (b' : List ℕ) where
   -- "A refusal returns its number alone, with the old processor [..] and no write."
-  abbrev pub Turned : ℕ → Type 0
+  abbrev pub Turned : Refusal → Type 0
   Turned k = (r ≡ record { answer = Err k; processor = p }) × (b' ≡ b)
 
   -- a take of P lent b, at a sweep with the trace T
   pub record OfTake (ω : Opening) (T : Trace) : Type 0 where
-    pub four : (length P.flags ≡ length P.values → ⊥) → Turned 4
-    pub five : length P.flags ≡ length P.values → 4096 < length P.flags → Turned 5
-    pub six : length P.flags ≡ length P.values → length P.flags ≤ 4096 → 32768 < length T.flags + length P.flags → Turned 6
+    pub four : (length P.flags ≡ length P.values → ⊥) → Turned Unequal
+    pub five : length P.flags ≡ length P.values → 4096 < length P.flags → Turned PieceLength
+    pub six : length P.flags ≡ length P.values → length P.flags ≤ 4096 → 32768 < length T.flags + length P.flags → Turned SweepLength
     pub seven : length P.flags ≡ length P.values → length P.flags ≤ 4096 → length T.flags + length P.flags ≤ 32768
-        → length b < bytes_for (length P.flags) → Turned 7
+        → length b < bytes_for (length P.flags) → Turned NoRoom
     pub eight : length P.flags ≡ length P.values → length P.flags ≤ 4096 → length T.flags + length P.flags ≤ 32768
-        → bytes_for (length P.flags) ≤ length b → any bad P.flags ≡ true → Turned 8
+        → bytes_for (length P.flags) ≤ length b → any bad P.flags ≡ true → Turned BadFlag
     pub accepts : length P.flags ≡ length P.values → length P.flags ≤ 4096 → length T.flags + length P.flags ≤ 32768
         → bytes_for (length P.flags) ≤ length b → any bad P.flags ≡ false
         → (r ≡ record { answer = Ok (length (fresh standard T P)); processor = running_processor ω (T ⧺ P) }) × (b' ≡ over (records (fresh standard T P)) b)
@@ -49,12 +51,12 @@ module _ (p : Processor) (P : Trace) (b : List ℕ) (r : Answered) (b' : List �
 -- ---- close
 
 module _ (p : Processor) (b : List ℕ) (r : Closed) (b' : List ℕ) where
-  abbrev pub TurnedClose : ℕ → Type 0
+  abbrev pub TurnedClose : Refusal → Type 0
   TurnedClose k =
       (r ≡ record { answer = Err k; totals = record { found = 0; replies = 0; sidelobe = 0; garbled = 0; lost = 0; phantoms = 0 }; processor = p }) × (b' ≡ b)
 
   pub record OfClose (ω : Opening) (T : Trace) : Type 0 where
-    pub seven : length b < 144 → TurnedClose 7
+    pub seven : length b < 144 → TurnedClose NoRoom
     pub accepts : 144 ≤ length b
         → (r ≡ record { answer = Ok (length (rest standard T)); totals = totals (final standard T); processor = idle_processor }) × (b' ≡ over (records (rest standard T)) b)
 

@@ -13,7 +13,8 @@ use Rattle.rules.specs.Sentences.{Actual, Pseudo, Extra}
 use Rattle.rules.specs.Replies.{level, agrees}
 use Rattle.rules.specs.Machine.{given, brackets_below, final}
 use Rattle.rules.specs.Records.{records, replies, flags_of, totals}
-use Rattle.rules.specs.Calls.{handed}
+use Rattle.rules.specs.declared.Refusal.TheVariants.{Mode, Azimuth, NotOpen, Unequal, PieceLength, SweepLength, NoRoom, BadFlag, Malformed, NoFrame}
+use Rattle.rules.specs.Calls.{handed, number_of}
 use Rattle.rules.specs.Examples.{span, nowhere, short, ticks, pulses, framed, printed}
 use Rattle.processor.specs.declared.Processor.{Processor}
 use Rattle.processor.specs.State.{Sweep, none, running, idle_processor, running_processor, Made}
@@ -108,11 +109,14 @@ pub record Promises : Type 0 where
   pub printed-record : records (replies (final standard printed))
       ≡ 0x00 ∷ 0x14 ∷ 0x20 ∷ 0x00 ∷ 0x7f ∷ 0xff ∷ 0x01 ∷ 0x02 ∷ 0x00 ∷ 0xa0 ∷ 0x40 ∷ 0x54 ∷ 0 ∷ 0 ∷ 0 ∷ 0 ∷ 0 ∷ 0 ∷ []
   pub printed-totals : counts_of printed ≡ counts 1 1 0 0 0 0
+  -- the numbers of the refusals
+  pub refusal-numbers : map number_of (Mode ∷ Azimuth ∷ NotOpen ∷ Unequal ∷ PieceLength ∷ SweepLength ∷ NoRoom ∷ BadFlag ∷ Malformed ∷ NoFrame ∷ [])
+      ≡ 1 ∷ 2 ∷ 3 ∷ 4 ∷ 5 ∷ 6 ∷ 7 ∷ 8 ∷ 9 ∷ 10 ∷ []
   -- Demands 1 and 2: every call is refused with its number, or returns what the rules give; `open_of`, `TakePost` and `ClosePost` are the contracts
   pub open-numbers : (ω : Opening) → OfOpen ω (open_of ω)
-  pub take_none : (p : Processor) (P : Trace) (b : List ℕ) (r : Answered) (b' : List ℕ) → TakePost p P b r b' → Made none p → Turned p P b r b' 3
+  pub take_none : (p : Processor) (P : Trace) (b : List ℕ) (r : Answered) (b' : List ℕ) → TakePost p P b r b' → Made none p → Turned p P b r b' NotOpen
   pub take-numbers : (p : Processor) (P : Trace) (b : List ℕ) (r : Answered) (b' : List ℕ) → TakePost p P b r b' → (ω : Opening) (T : Trace) → Made (running ω T) p → OfTake p P b r b' ω T
-  pub close-none : (p : Processor) (b : List ℕ) (r : Closed) (b' : List ℕ) → ClosePost p b r b' → Made none p → TurnedClose p b r b' 3
+  pub close-none : (p : Processor) (b : List ℕ) (r : Closed) (b' : List ℕ) → ClosePost p b r b' → Made none p → TurnedClose p b r b' NotOpen
   pub close-numbers : (p : Processor) (b : List ℕ) (r : Closed) (b' : List ℕ) → ClosePost p b r b' → (ω : Opening) (T : Trace) → Made (running ω T) p → OfClose p b r b' ω T
   -- Demand 3, for every list of calls. No close was accepted: the processor and what was handed out are those of the joined trace.
   pub unclosed-processor : (ω : Opening) (p : Processor) (cs : List Call) → Run ω p cs → all_totals cs ≡ [] → last p cs ≡ running_processor ω (joined_trace cs)
@@ -130,7 +134,7 @@ pub record Promises : Type 0 where
   pub closed-found : (ω : Opening) (p : Processor) (cs : List Call) → Run ω p cs → (x : Totals) (xs : List Totals) → all_totals cs ≡ x ∷ xs
       → x.found ≡ brackets_below (given standard (joined_trace cs)) (length (joined_trace cs).flags)
   pub closed-idle : (ω : Opening) (p : Processor) (cs : List Call) → Run ω p cs → (x : Totals) (xs : List Totals) → all_totals cs ≡ x ∷ xs → last p cs ≡ idle_processor
-  pub later-three : (ω : Opening) (p : Processor) (cs : List Call) → Run ω p cs → All (λ c. answer c ≡ Err 3) (after_close cs)
+  pub later-three : (ω : Opening) (p : Processor) (cs : List Call) → Run ω p cs → All (λ c. answer c ≡ Err NotOpen) (after_close cs)
   -- Each call was accepted or refused with the first number that holds, and the joined trace has no bad byte.
   pub judged : (ω : Opening) (p : Processor) (cs : List Call) → Run ω p cs → Judged (running ω nothing) cs
   pub good : (ω : Opening) (p : Processor) (cs : List Call) → Run ω p cs → any bad (joined_trace cs).flags ≡ false

@@ -6,7 +6,7 @@ ghost use Rattle.std.specs.Prelude.{◌+◌, ◌≤◌, ◌≡◌, length};
 ghost use Rattle.rules.specs.Samples.{lent, sweep_limit};
 ghost use Rattle.calls.specs.Post.{open_of, TakePost, TakenPiece, ClosePost, ClosedOpen};
 
-use calls::{Answer, Closed, Answered, Answered, closed_after, no_close, no_take, opened_with};
+use calls::{Answered, Closed, closed_after, no_close, no_take, opened_with};
 use front::values::keep;
 use machine::work;
 use pieces::drain;
@@ -18,15 +18,16 @@ use rules::{Opening, RECORD};
 pub fn open(opening: Opening) -> Answered
     ensures { result ≡ open_of opening }
 {
-    let number = open_refusal(opening);
-    if number != 0 {
-        let none = Opening {
-            mode: 0,
-            azimuth: 0,
-        };
-        return opened_with(Err(number), none);
+    match open_refusal(opening) {
+        Err(refusal) => {
+            let none = Opening {
+                mode: 0,
+                azimuth: 0,
+            };
+            opened_with(Err(refusal), none)
+        }
+        Ok(()) => opened_with(Ok(0), opening),
     }
-    opened_with(Ok(0), opening)
 }
 
 // A take that is carried out. It asks for no more room than for the records that it writes.
@@ -49,11 +50,10 @@ fn take_piece(p: Processor, flags: &[u8], values: &[u8], out: &mut [u8]) -> Answ
 pub fn take(p: Processor, flags: &[u8], values: &[u8], out: &mut [u8]) -> Answered
     ensures { TakePost p (lent flags.now values.now) out.old result out.new }
 {
-    let number = take_refusal(p.opening.mode, p.taken, flags, values, out.len());
-    if number != 0 {
-        return no_take(p, number);
+    match take_refusal(p.opening.mode, p.taken, flags, values, out.len()) {
+        Err(refusal) => no_take(p, refusal),
+        Ok(()) => take_piece(p, flags, values, out),
     }
-    take_piece(p, flags, values, out)
 }
 
 // A close that is carried out. It asks for no more room than for the records that it writes.
@@ -70,9 +70,8 @@ pub fn close_open(p: Processor, out: &mut [u8]) -> Closed
 pub fn close(p: Processor, out: &mut [u8]) -> Closed
     ensures { ClosePost p out.old result out.new }
 {
-    let number = close_refusal(p.opening.mode, out.len());
-    if number != 0 {
-        return no_close(p, number);
+    match close_refusal(p.opening.mode, out.len()) {
+        Err(refusal) => no_close(p, refusal),
+        Ok(()) => close_open(p, out),
     }
-    close_open(p, out)
 }

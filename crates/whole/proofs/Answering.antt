@@ -1,5 +1,5 @@
 -- The whole call: a refusal writes nothing, and otherwise no refusal number holds.
-use Prim.Native.Nat.{ℕ, ◌-◌, ◌*◌, ◌%◌, ◌≤◌, ◌<◌}
+use Prim.Native.Nat.{ℕ, ◌-◌, ◌*◌, ◌%◌, ◌^◌, ◌≤◌, ◌<◌}
 use native.Mathlib.Omega.{arith}
 use mathlib.Core.Path.{◌≡◌, sym, ap, ◌∙◌}
 use mathlib.Core.Bool.{false, ◌&&◌}
@@ -15,7 +15,8 @@ use Rattle.rules.specs.Samples.{Trace, nothing, bad, piece_limit, sweep_limit}
 use Rattle.rules.specs.Buffers.{over, over-at}
 use Rattle.rules.specs.Machine.{final}
 use Rattle.rules.specs.Records.{record_size, totals_size, records, replies}
-use Rattle.rules.specs.Calls.{Answer, accepted, refused, open_checks, open_answer, handed, rest}
+use Rattle.rules.specs.declared.Refusal.{Refusal}
+use Rattle.rules.specs.Calls.{Answer, accepted, refused, number_of, open_checks, open_answer, handed, rest}
 use Rattle.rules.proofs.Truth.{and_left, and_right, or_left, or_right}
 use Rattle.rules.proofs.Checks.{none-holds, all_skip}
 use Rattle.rules.proofs.Joining.{handed-rest, records-append, records-length}
@@ -32,12 +33,11 @@ use Rattle.takes.proofs.Taking.{over-more, handed-most}
 
 -- ---- a refusal
 
-pub whole-refused : (ω : Opening) (T : Trace) (piece : ℕ) (b c : List ℕ) (n : ℕ) → whole_answer ω T piece (length b) (length c) ≡ refused (record { number = n }) → (n ≡ 0 → ⊥) → n ≤ 255
-    → WholePost ω T piece b c (4294967295 - (n - 1)) b c
-whole-refused ω T piece b c n v z small =
-    let m : 4294967295 - (n - 1) ≡ 4294967296 - n = omega (arith, z, small) in
+pub whole-refused : (ω : Opening) (T : Trace) (piece : ℕ) (b c : List ℕ) (k : Refusal) (r : ℕ) → whole_answer ω T piece (length b) (length c) ≡ refused k
+    → r ≡ 2 ^ 32 - number_of k → WholePost ω T piece b c r b c
+whole-refused ω T piece b c k r v e =
     record {
-      result = m ∙ ap (λ (x : Answer). answer_of x T) (sym v);
+      result = e ∙ ap (λ (x : Answer). answer_of x T) (sym v);
       record_bytes = ap (λ (x : Answer). records_of x T b) (sym v);
       total_bytes = ap (λ (x : Answer). totals_of_lem x T c) (sym v);
     }

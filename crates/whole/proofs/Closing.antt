@@ -12,6 +12,7 @@ use Rattle.rules.specs.Settings.{standard}
 use Rattle.rules.specs.Samples.{Trace}
 use Rattle.rules.specs.Buffers.{over, over-at}
 use Rattle.rules.specs.Records.{records, record_size}
+use Rattle.rules.specs.declared.Refusal.{Refusal}
 use Rattle.rules.specs.Calls.{accepted, most_left, rest}
 use Rattle.rules.proofs.HandingOut.{rest-most}
 use Rattle.frames.specs.Writing.{totals_bytes_lem}
@@ -51,7 +52,7 @@ module _ (p : Processor) (at : ℕ) (b : List ℕ) (here : at ≤ length b) (x :
             w ∙ ap (λ (y : Totals). over (totals_bytes_lem y) c) (ap (λ (y : Closed). y.totals) (is ω T m room));
       }
 
-  pub closed-refused : (c c' : List ℕ) → (n : ℕ) → x.answer ≡ Err n → CloseAtPost p at b c (at / record_size) (put_mid at (length b - at) b m') c'
+  pub closed-refused : (c c' : List ℕ) → (n : Refusal) → x.answer ≡ Err n → CloseAtPost p at b c (at / record_size) (put_mid at (length b - at) b m') c'
   unfolding is_refused
   closed-refused c c' n e =
       record {

@@ -6,7 +6,7 @@ use Rattle.rules.specs.Samples.{Trace}
 use Rattle.rules.specs.Buffers.{over, over-at}
 use Rattle.rules.specs.Machine.{final}
 use Rattle.rules.specs.Records.{records, replies, totals, record_size}
-use Rattle.rules.specs.Calls.{Answer, accepted, refused, rest}
+use Rattle.rules.specs.Calls.{Answer, accepted, refused, number_of, rest}
 use Rattle.frames.specs.Writing.{totals_bytes_lem}
 use Rattle.processor.specs.declared.Processor.{Processor}
 use Rattle.processor.specs.State.{running, Made}
@@ -15,7 +15,7 @@ use Rattle.whole_refusals.specs.Whole.{whole_answer}
 -- the count of replies, or minus the number in 32 bits
 abbrev pub answer_of : Answer → Trace → ℕ
 answer_of accepted T = length (replies (final standard T))
-answer_of (refused k) T = 2 ^ 32 - k.number
+answer_of (refused k) T = 2 ^ 32 - number_of k
 
 abbrev pub records_of : Answer → Trace → List ℕ → List ℕ
 records_of accepted T b = over (records (replies (final standard T))) b

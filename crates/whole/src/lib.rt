@@ -1,20 +1,19 @@
 // A whole sweep in one call, on numbers and byte buffers, for a program in C: opened, taken in pieces, closed.
 #![tactic(auto)]
 
-ghost use Rattle.std.specs.Prelude.{◌≤◌, ◌≡◌, length};
+ghost use Rattle.std.specs.Prelude.{◌-◌, ◌^◌, ◌≤◌, ◌≡◌, length};
 ghost use Rattle.rules.specs.Records.{totals_size};
 ghost use Rattle.whole_refusals.specs.Whole.{whole_answer};
 ghost use Rattle.rules.specs.Samples.{lent};
 ghost use Rattle.whole.specs.Post.{CloseAtPost, WholePost, WholeByNumbers};
-ghost use Rattle.rules.specs.Calls.{accepted};
+ghost use Rattle.rules.specs.Calls.{accepted, number_of};
 ghost use Rattle.calls.specs.Post.{open_of};
 ghost use Rattle.rules.specs.Buffers.{over};
 ghost use Rattle.frames.specs.Writing.{totals_bytes_lem};
 
-use calls::Answer;
 use frames::totals_bytes;
 use processor::Processor;
-use rules::{MOST_LEFT, Opening, RECORD, TOTALS, Totals};
+use rules::{MOST_LEFT, Opening, RECORD, Refusal, TOTALS, Totals};
 use sweep::{close_open, open};
 use takes::{least, take_all};
 use whole_refusals::whole_refusal;
@@ -25,10 +24,8 @@ fn close_at(p: Processor, out: &mut [u8], at: usize, totals: &mut [u8]) -> usize
     ensures { CloseAtPost p at out.old totals.old result out.new totals.new }
 {
     let c = close_open(p, &mut out[at..]);
-    let t = c.totals;
-    let answer = c.answer;
-    put_totals(t, totals);
-    match answer {
+    put_totals(c.totals, totals);
+    match c.answer {
         Err(_) => at / RECORD,
         Ok(count) => at / RECORD + least(count, MOST_LEFT),
     }
@@ -72,6 +69,13 @@ fn swept(
     (count % 65536) as u32
 }
 
+// Minus the number of a refusal, in 32 bits.
+fn minus(refusal: Refusal) -> u32
+    ensures { result ≡ 2 ^ 32 - number_of refusal }
+{
+    u32::from(u8::from(refusal)).wrapping_neg()
+}
+
 // Opens a sweep, takes it in pieces of `piece` ticks, and closes it. The records of all replies land at the start of `out`, the totals at the start
 // of `totals`, and the answer is the count of records; or, read as an int32_t,
 // minus the number of a refusal, and nothing is written. 1: mode not 1 to 3. 2: azimuth
@@ -90,9 +94,8 @@ pub extern "C" fn whole_sweep(
     ensures { WholeByNumbers mode azimuth (lent flags.now values.now) piece out.old totals.old result out.new totals.new }
 {
     let opening = Opening { mode, azimuth };
-    let number = whole_refusal(opening, flags, values, piece, out, totals);
-    if number != 0 {
-        return 4294967295 - (number as u32 - 1);
+    match whole_refusal(opening, flags, values, piece, out, totals) {
+        Err(refusal) => minus(refusal),
+        Ok(()) => swept(opening, flags, values, piece, out, totals),
     }
-    swept(opening, flags, values, piece, out, totals)
 }

@@ -1,14 +1,15 @@
-// Which number turns a whole sweep in one call down: the first of its list that holds, or 0. A function of numbers and slices alone; asks nothing of its caller.
+// Which refusal turns a whole sweep in one call down: the first of its list that holds, if one does. A function of numbers and slices alone; asks nothing of
+// its caller.
 #![tactic(auto)]
 
 ghost use Rattle.std.specs.Prelude.{◌≤◌, ◌≡◌, length};
 ghost use Rattle.rules.specs.Samples.{lent};
-ghost use Rattle.refusals.specs.Numbers.{answer_numbered};
+ghost use Rattle.rules.specs.Calls.{answer_from};
 ghost use Rattle.whole_refusals.specs.Whole.{whole_room_lem, whole_answer};
 
 use flags::has_bad;
 use refusals::open_refusal;
-use rules::{CLOSE_ROOM, Opening, RECORD, TOTALS};
+use rules::{CLOSE_ROOM, Opening, RECORD, Refusal, TOTALS};
 
 // The bytes that the reply buffer of a whole sweep must have for n ticks.
 fn whole_room(n: usize) -> usize
@@ -27,34 +28,31 @@ pub fn whole_refusal(
     piece: usize,
     out: &[u8],
     totals: &[u8],
-) -> u8
-    ensures { answer_numbered result ≡ whole_answer opening (lent flags.now values.now) piece (length out.now) (length totals.now) }
+) -> Result<(), Refusal>
+    ensures { answer_from result ≡ whole_answer opening (lent flags.now values.now) piece (length out.now) (length totals.now) }
 {
-    let number = open_refusal(opening);
-    if number != 0 {
-        return number;
-    }
+    open_refusal(opening)?;
     let n = flags.len();
     if n != values.len() {
-        return 4;
+        return Err(Refusal::Unequal);
     }
     if piece < 1 {
-        return 5;
+        return Err(Refusal::PieceLength);
     }
     if 4096 < piece {
-        return 5;
+        return Err(Refusal::PieceLength);
     }
     if 32768 < n {
-        return 6;
+        return Err(Refusal::SweepLength);
     }
     if out.len() < whole_room(n) {
-        return 7;
+        return Err(Refusal::NoRoom);
     }
     if totals.len() < TOTALS {
-        return 7;
+        return Err(Refusal::NoRoom);
     }
     if has_bad(flags) {
-        return 8;
+        return Err(Refusal::BadFlag);
     }
-    0
+    Ok(())
 }

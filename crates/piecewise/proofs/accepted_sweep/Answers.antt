@@ -7,9 +7,9 @@ use Rattle.piecewise.proofs.accepted_sweep.Goals as goal
 pub overflow_add-count : goal.overflow_add-count
 overflow_add-count c =
     let a = c.args in
-    omega (arith, c.count_of.ensures, close_few a.opening (record { flags = a.flags.now; values = a.values.now }) a.piece a.out.now c.requires c.take_each-t.result.processor c.take_each-t.result.at _ c.take_each-t.ensures (omega (arith, c.out-1.given)) c.close-c.result _ c.close-c.ensures)
+    omega (arith, c.unwrap_or.ensures, close_few a.opening (record { flags = a.flags.now; values = a.values.now }) a.piece a.out.now c.requires c.take_each-t.result.processor c.take_each-t.result.at _ c.take_each-t.ensures (omega (arith, c.out-1.given)) c.close-c.result _ c.close-c.ensures)
 
 pub returns : goal.returns
 returns c =
     let a = c.args in
-    swept_all a.opening (record { flags = a.flags.now; values = a.values.now }) a.piece a.out.now c.requires c.take_each-t.result.processor c.take_each-t.result.at _ c.take_each-t.ensures (omega (arith, c.out-1.given)) c.close-c.result _ c.close-c.ensures c.count_of.result c.count_of.ensures _ refl
+    swept_all a.opening (record { flags = a.flags.now; values = a.values.now }) a.piece a.out.now c.requires c.take_each-t.result.processor c.take_each-t.result.at _ c.take_each-t.ensures (omega (arith, c.out-1.given)) c.close-c.result _ c.close-c.ensures c.unwrap_or.result c.unwrap_or.ensures _ refl

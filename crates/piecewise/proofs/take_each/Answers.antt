@@ -33,13 +33,13 @@ pub overflow_mul-at : goal.overflow_mul-at
 overflow_mul-at c =
     let a = c.args in
     let l = c.loop-i in
-    omega (arith, count_small a.opening (record { flags = a.flags.now; values = a.values.now }) a.piece a.out.now c.requires l.p l.at l.i l.out (l.invariant.pieces a.opening (ap (λ (x : Answered). x.processor) c.open-o.ensures) c.requires) (all-bytes a.values.now (λ k. omega (arith, c.type_inv.values k))) _ (ap (λ (n : ℕ). l.i + n) c.least.ensures) c.take-t.result _ c.take-t.ensures c.count_of.result c.count_of.ensures)
+    omega (arith, count_small a.opening (record { flags = a.flags.now; values = a.values.now }) a.piece a.out.now c.requires l.p l.at l.i l.out (l.invariant.pieces a.opening (ap (λ (x : Answered). x.processor) c.open-o.ensures) c.requires) (all-bytes a.values.now (λ k. omega (arith, c.type_inv.values k))) _ (ap (λ (n : ℕ). l.i + n) c.least.ensures) c.take-t.result _ c.take-t.ensures c.unwrap_or.result c.unwrap_or.ensures)
 
 pub overflow_add-at : goal.overflow_add-at
 overflow_add-at c =
     let a = c.args in
     let l = c.loop-i in
-    omega (arith, count_small a.opening (record { flags = a.flags.now; values = a.values.now }) a.piece a.out.now c.requires l.p l.at l.i l.out (l.invariant.pieces a.opening (ap (λ (x : Answered). x.processor) c.open-o.ensures) c.requires) (all-bytes a.values.now (λ k. omega (arith, c.type_inv.values k))) _ (ap (λ (n : ℕ). l.i + n) c.least.ensures) c.take-t.result _ c.take-t.ensures c.count_of.result c.count_of.ensures)
+    omega (arith, count_small a.opening (record { flags = a.flags.now; values = a.values.now }) a.piece a.out.now c.requires l.p l.at l.i l.out (l.invariant.pieces a.opening (ap (λ (x : Answered). x.processor) c.open-o.ensures) c.requires) (all-bytes a.values.now (λ k. omega (arith, c.type_inv.values k))) _ (ap (λ (n : ℕ). l.i + n) c.least.ensures) c.take-t.result _ c.take-t.ensures c.unwrap_or.result c.unwrap_or.ensures)
 
 pub loop-i-smaller : goal.loop-i-smaller
 loop-i-smaller c =
@@ -50,7 +50,7 @@ pub loop-i-preserved : goal.loop-i-preserved
 loop-i-preserved c =
     let a = c.args in
     let l = c.loop-i in
-    record { pieces = λ ω e ok. pieces_next ω (record { flags = a.flags.now; values = a.values.now }) a.piece a.out.now ok l.p l.at l.i l.out (l.invariant.pieces ω e ok) (all-bytes a.values.now (λ k. omega (arith, c.type_inv.values k))) _ (ap (λ (n : ℕ). l.i + n) c.least.ensures) c.take-t.result _ c.take-t.ensures c.count_of.result c.count_of.ensures (omega (arith, c.out-1.given)) }
+    record { pieces = λ ω e ok. pieces_next ω (record { flags = a.flags.now; values = a.values.now }) a.piece a.out.now ok l.p l.at l.i l.out (l.invariant.pieces ω e ok) (all-bytes a.values.now (λ k. omega (arith, c.type_inv.values k))) _ (ap (λ (n : ℕ). l.i + n) c.least.ensures) c.take-t.result _ c.take-t.ensures c.unwrap_or.result c.unwrap_or.ensures (omega (arith, c.out-1.given)) }
 
 pub shape_of-out : goal.shape_of-out
 shape_of-out c =

@@ -1,13 +1,13 @@
-use Rattle.refusals.proofs.Numbers.{turned_down, let_through}
+use mathlib.Core.Path.{sym}
 use Rattle.sweep.proofs.Operations.{close-no, close-yes}
 use Rattle.sweep.proofs.close.Goals as goal
 
-pub returns-then-number-ne0 : goal.returns-then-number-ne0
-returns-then-number-ne0 c =
+pub returns-in-Err : goal.returns-in-Err
+returns-in-Err c =
     let a = c.args in
-    close-no a.p a.out.now _ _ (turned_down _ _ c.close_refusal-number.ensures c.if-number-ne0.true) c.no_close.ensures
+    close-no a.p a.out.now _ _ (sym c.in-Err.ensures) c.no_close.ensures
 
-pub returns : goal.returns
-returns c =
+pub returns-in-Ok : goal.returns-in-Ok
+returns-in-Ok c =
     let a = c.args in
-    close-yes a.p a.out.now _ _ (let_through _ _ c.close_refusal-number.ensures c.if-number-ne0.false) c.close_open.ensures
+    close-yes a.p a.out.now _ _ (sym c.in-Ok.ensures) c.close_open.ensures

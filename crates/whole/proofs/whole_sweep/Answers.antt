@@ -1,12 +1,11 @@
-use native.Mathlib.Omega.{arith}
-use Rattle.refusals.proofs.Numbers.{turned_down, let_through}
+use mathlib.Core.Path.{sym}
 use Rattle.whole.proofs.Answering.{whole-refused}
 use Rattle.whole.proofs.whole_sweep.Goals as goal
 
-pub returns-then-number-ne0 : goal.returns-then-number-ne0
-returns-then-number-ne0 c =
+pub returns-in-Err : goal.returns-in-Err
+returns-in-Err c =
     let a = c.args in
-    whole-refused (record { mode = a.mode; azimuth = a.azimuth }) (record { flags = a.flags.now; values = a.values.now }) a.piece a.out.now a.totals.now _ (turned_down _ _ c.whole_refusal-number.ensures c.if-number-ne0.true) c.if-number-ne0.true (omega arith)
+    whole-refused (record { mode = a.mode; azimuth = a.azimuth }) (record { flags = a.flags.now; values = a.values.now }) a.piece a.out.now a.totals.now _ _ (sym c.in-Err.ensures) c.minus.ensures
 
 pub swept-requires : goal.swept-requires
-swept-requires c = let_through _ _ c.whole_refusal-number.ensures c.if-number-ne0.false
+swept-requires c = sym c.in-Ok.ensures
