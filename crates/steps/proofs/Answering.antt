@@ -28,8 +28,6 @@ use Rattle.processor.specs.State.{Sweep, none, running, processor_of, running_pr
 use Rattle.calls.specs.Post.{open_as, open_of, longer, handed_out, count_of, take_answer_at, take_as, take_buffer_as, TakePost, close_answer_at, left_over, left_count, totals_of_lem, close_as, close_buffer_as, ClosePost}
 use Rattle.rules.proofs.Answers.{standard_allowed}
 use Rattle.rules.specs.declared.Refusal.{Refusal}
-use Rattle.reading.specs.declared.Frame.{Frame}
-use Rattle.reading.specs.declared.Frame.TheVariants.{Samples}
 use Rattle.frames.specs.Writing.{reply_lines_lem, first_lines, totals_line_lem, refusal_line_lem, reply_line_size}
 use Rattle.reading.specs.Frames.{Reading, opening, samples, closing, reading, refused as unread}
 use Rattle.reading.specs.Post.{Line, line_of, flags_after, values_after, ReadPost}
@@ -41,7 +39,7 @@ use Rattle.steps.specs.declared.Step.{Step}
 use Rattle.steps.specs.declared.Step.TheVariants.{Goes, Stops, Full}
 use Rattle.steps.specs.declared.Stepped.{Stepped}
 use Rattle.steps.specs.Outcomes.{Outcome, stops, opened_as, opened_at, fresh_of, taken_as, taken_at, rest_of, closed_as, closed_at, outcome_at, line_at, printed, line_room}
-use Rattle.steps.specs.Post.{stepped_by, has_room_lem, stepped_as, output_as, StepPost, AnswerPost, step_of, TakePrints, TakeShown, ClosePrints, CloseShown, piece_of, frame_at, said_at, count_in_lem, line_most}
+use Rattle.steps.specs.Post.{stepped_by, has_room_lem, stepped_as, output_as, StepPost, AnswerPost, step_of, TakePrints, TakeShown, ClosePrints, CloseShown, piece_of, said_at, count_in_lem, line_most}
 
 -- ---- answers taken apart
 
@@ -104,7 +102,7 @@ records-wrote F h h₀ n is count few at b e b' room w =
 -- ---- what happens, by another name
 
 module _ (p : Processor) (at : ℕ) (b : List ℕ) where
-  pub outcome_as : (o o' : Sweep → Outcome) (r : Stepped) (b' : List ℕ) → ((σ : Sweep) → Made σ p → o σ ≡ o' σ) → AnswerPost o' p at b r b' → AnswerPost o p at b r b'
+  outcome_as : (o o' : Sweep → Outcome) (r : Stepped) (b' : List ℕ) → ((σ : Sweep) → Made σ p → o σ ≡ o' σ) → AnswerPost o' p at b r b' → AnswerPost o p at b r b'
   outcome_as o o' r b' e c =
       record {
         inside = c.inside;
@@ -178,7 +176,7 @@ module _ (p : Processor) (at : ℕ) (b : List ℕ) where
   module _ (room : at + line_most ≤ length b) where
     -- ---- a refusal
 
-    pub stop_post : (k : Refusal) (e : ℕ) (b' : List ℕ) → WritePost (refusal_line_lem (number_of k)) at b e b' → AnswerPost (λ σ. stops k) p at b (record { step = Stops k e; processor = p }) b'
+    stop_post : (k : Refusal) (e : ℕ) (b' : List ℕ) → WritePost (refusal_line_lem (number_of k)) at b e b' → AnswerPost (λ σ. stops k) p at b (record { step = Stops k e; processor = p }) b'
     stop_post k e b' w =
         let d = wrote (refusal_line_lem (number_of k)) at b e b' (omega arith) w in
         record {
@@ -358,23 +356,11 @@ module _ (p : Processor) (at : ℕ) (b : List ℕ) (room : at + line_most ≤ le
           close-refused p at b room h₀ h lent t post k e (record { step = Stops k w.place; processor = t.processor }) b'
           (stop_post t.processor at b room k w.place b' q)
 
--- ---- what a line says, taken apart
-
-pub said-refused : (l : Line) (k : Refusal) → l ≡ Err k → (f v : List ℕ) (σ : Sweep) → said_at l f v σ ≡ stops k
-said-refused l k e f v σ = ap (λ (x : Line). said_at x f v σ) e
-
-pub said-frame : (l : Line) (x y : Frame) → l ≡ Ok x → x ≡ y → (f v : List ℕ) (σ : Sweep) → said_at l f v σ ≡ frame_at y f v σ
-said-frame l x y e q f v σ = ap (λ (z : Line). said_at z f v σ) e ∙ ap (λ (z : Frame). frame_at z f v σ) q
-
-pub said-count : (l : Line) (x : Frame) (n : ℕ) → l ≡ Ok x → x ≡ Samples n → count_in_lem l ≡ n
-said-count l x n e q = ap count_in_lem (e ∙ ap Ok q)
+-- ---- parts of a list
 
 -- n of the bytes
 pub part_length : (l : List ℕ) (n : ℕ) → n ≤ length l → n ≡ length (take n l)
 part_length l n h = sym (length-take-le n l h)
-
-pub said-short : (l : Line) (x : Frame) (n : ℕ) (f : List ℕ) → l ≡ Ok x → x ≡ Samples n → count_in_lem l ≤ 64 → count_in_lem l ≤ length f → length (take n f) ≤ 64
-said-short l x n f e q a b = omega (arith, said-count l x n e q, length-take-le n f (omega (arith, said-count l x n e q)))
 
 -- ---- a line read
 
@@ -446,7 +432,3 @@ full_post p line at b q =
       result = λ σ m. ap (λ (t : Bool). stepped_as t (line_at σ line) p at) (sym q);
       output = λ σ m. ap (λ (t : Bool). output_as t (line_at σ line) at b) (sym q);
     }
-
--- what is promised of an answer, of one that is equal to it
-pub answer_as : (o : Sweep → Outcome) (p : Processor) (at : ℕ) (b : List ℕ) (x r : Stepped) (b' : List ℕ) → r ≡ x → AnswerPost o p at b x b' → AnswerPost o p at b r b'
-answer_as o p at b x r b' e h = subst (λ (z : Stepped). AnswerPost o p at b z b') (sym e) h
