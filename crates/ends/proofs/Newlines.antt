@@ -12,8 +12,7 @@ use lib.Seq.{take-suc, get_or-take, get_or-drop}
 use borrow.Author.Tests.{ltb-true, ltb-false, leb-false, le-leb, lt-leb, eqb-true, eqb-false}
 use Rattle.rules.specs.Lists.{any, All}
 use Rattle.rules.proofs.Truth.{impossible, or_left, or_right, or-second}
-use Rattle.ends.specs.declared.End.{End}
-use Rattle.ends.specs.declared.End.TheVariants.{At, Past}
+use Rattle.std.specs.Prelude.{Option, Some, None}
 use Rattle.ends.specs.Ends.{NoNewline, Newline, newline_in, plain32, passed_by, Passed, LineEnd, LinePast, EndPost}
 
 -- ---- bytes without a newline
@@ -174,7 +173,7 @@ module _ (input : List ℕ) (from : ℕ) where
     up_to : NoNewline input from (i + 1 - 1)
     up_to = record { none = λ k a b e. h.seen.none k a (omega arith) e }
 
-    pub found_newline : get_or input i 0 ≡ 10 → EndPost input from (At (i + 1))
+    pub found_newline : get_or input i 0 ≡ 10 → EndPost input from (Some (i + 1))
     found_newline e =
         record {
           some = omega (arith, h.start);
@@ -183,7 +182,7 @@ module _ (input : List ℕ) (from : ℕ) where
           ends = inl (ap (λ (k : ℕ). get_or input k 0) {x = i + 1 - 1} {y = i} (omega arith) ∙ e);
         }
 
-    pub found-long : left - 1 ≡ 0 → EndPost input from (At (i + 1))
+    pub found-long : left - 1 ≡ 0 → EndPost input from (Some (i + 1))
     found-long e = record { some = omega (arith, h.start); inside = omega arith; before = up_to; ends = inr (omega (arith, h.sum, h.some, e)) }
 
     pub looking_next : (get_or input i 0 ≡ 10 → ⊥) → (left - 1 ≡ 0 → ⊥) → Looking input from (i + 1) (left - 1)
@@ -195,16 +194,16 @@ module _ (input : List ℕ) (from : ℕ) where
           seen = one_byte_more input from i (i + 1) refl h.seen d;
         }
 
-  pub looking_past : (i left : ℕ) → length input ≤ i → Looking input from i left → EndPost input from Past
+  pub looking_past : (i left : ℕ) → length input ≤ i → Looking input from i left → EndPost input from None
   looking_past i left l h =
       record { short = omega (arith, h.sum, h.some); before = record { none = λ k a b e. h.seen.none k a (omega arith) e } }
 
 -- ---- where a line ends, taken apart
 
-pub end-at : (input : List ℕ) (from : ℕ) (r : End) (to : ℕ) → r ≡ At to → EndPost input from r → LineEnd input from to
+pub end-at : (input : List ℕ) (from : ℕ) (r : Option ℕ) (to : ℕ) → r ≡ Some to → EndPost input from r → LineEnd input from to
 end-at input from r to e h = subst (EndPost input from) e h
 
-pub end-past : (input : List ℕ) (from : ℕ) (r : End) → r ≡ Past → EndPost input from r → LinePast input from
+pub end-past : (input : List ℕ) (from : ℕ) (r : Option ℕ) → r ≡ None → EndPost input from r → LinePast input from
 end-past input from r e h = subst (EndPost input from) e h
 
 -- ---- bytes as a list

@@ -1,8 +1,6 @@
 -- Where a line ends.
-use Rattle.std.specs.Prelude.{ℕ, zero, suc, ◌+◌, ◌-◌, ◌*◌, ◌≤◌, ◌<◌, List, ◌≡◌, ◌⊎◌, Bool, ◌&&◌, not, cond, eqb, leb, length, get_or, take, drop}
+use Rattle.std.specs.Prelude.{Option, Some, None, ℕ, zero, suc, ◌+◌, ◌-◌, ◌*◌, ◌≤◌, ◌<◌, List, ◌≡◌, ◌⊎◌, Bool, ◌&&◌, not, cond, eqb, leb, length, get_or, take, drop}
 use Rattle.rules.specs.Lists.{any}
-use Rattle.ends.specs.declared.End.{End}
-use Rattle.ends.specs.declared.End.TheVariants.{At, Past}
 
 -- no newline stands at the places from `from` to before `to`
 pub record NoNewline (input : List ℕ) (from to : ℕ) : Type 0 where
@@ -48,6 +46,6 @@ pub record LinePast (input : List ℕ) (from : ℕ) : Type 0 where
   pub short : length input < from + 259
   pub before : NoNewline input from (length input)
 
-abbrev pub EndPost : List ℕ → ℕ → End → Type 0
-EndPost input from (At to) = LineEnd input from to
-EndPost input from Past = LinePast input from
+abbrev pub EndPost : List ℕ → ℕ → Option ℕ → Type 0
+EndPost input from (Some to) = LineEnd input from to
+EndPost input from None = LinePast input from

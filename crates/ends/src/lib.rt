@@ -4,13 +4,6 @@
 ghost use Rattle.std.specs.Prelude.{◌+◌, ◌≤◌, ◌≡◌, length};
 ghost use Rattle.ends.specs.Ends.{newline_in, passed_by, EndPost};
 
-// A line ends behind its newline, or behind 259 bytes without one, which are no line any more; or it goes on past the input.
-#[derive(Clone, Copy)]
-pub enum End {
-    At(usize),
-    Past,
-}
-
 // Whether a newline stands in the 32 bytes from a place on. All of them are looked at, sixteen at once without a branch.
 fn has_newline(input: &[u8], from: usize) -> bool
     requires { from + 32 ≤ length input.now }
@@ -48,8 +41,9 @@ fn passed(input: &[u8], from: usize) -> usize
     i
 }
 
-// Where the line that begins at `from` ends.
-pub fn line_end(input: &[u8], from: usize) -> End
+// Where the line that begins at `from` ends: behind its newline, or behind 259 bytes without one, which are no line any more. None where it goes on
+// past the input.
+pub fn line_end(input: &[u8], from: usize) -> Option<usize>
     ensures { EndPost input.now from result }
 {
     let n = input.len();
@@ -60,11 +54,11 @@ pub fn line_end(input: &[u8], from: usize) -> End
         i += 1;
         left -= 1;
         if c == 10 {
-            return End::At(i);
+            return Some(i);
         }
         if left == 0 {
-            return End::At(i);
+            return Some(i);
         }
     }
-    End::Past
+    None
 }

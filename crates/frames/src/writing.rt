@@ -1,12 +1,21 @@
 // Lines 11, 12 and 1f: what a survey prints. Lines that do not fit into the rest of the buffer are not written.
-ghost use Rattle.std.specs.Prelude.{◌+◌, ◌*◌, ◌≤◌, min, ◌≡◌, leb, length};
-ghost use Rattle.rules.specs.Records.{record_size};
+ghost use Rattle.std.specs.Prelude.{◌∷◌, ◌+◌, ◌*◌, ◌≤◌, ◌≡◌, leb, length};
+ghost use Rattle.rules.specs.Records.{record_size, totals_size};
 ghost use Rattle.rules.specs.Buffers.{over-at};
 ghost use Rattle.frames.specs.Writing.{record_lines, first_lines, totals_bytes_lem, totals_line_lem, refusal_line_lem, reply_line_size};
 ghost use Rattle.frames.specs.Post.{WritePost};
+ghost use Rattle.hexadecimal.specs.Digits.{written};
 
 use hexadecimal::put_line;
 use rules::{RECORD, TOTALS, Totals};
+
+// The kinds of these lines.
+#[derive(Clone, Copy)]
+enum Kind {
+    Reply = 0x11,
+    Totals = 0x12,
+    Refusal = 0x1f,
+}
 
 // The bytes of the lines 11 and 12: two digits for each byte, and the newline.
 pub const REPLY_LINE: usize = 2 * (1 + RECORD) + 1;
@@ -22,7 +31,12 @@ fn put_records(records: &[u8], n: usize, out: &mut [u8], at: usize)
     while k < n {
         let from = RECORD * k;
         let to = from + RECORD;
-        put_line(17, &records[from..to], out, at + REPLY_LINE * k);
+        put_line(
+            Kind::Reply as u8,
+            &records[from..to],
+            out,
+            at + REPLY_LINE * k,
+        );
         k += 1;
     }
 }
@@ -38,21 +52,11 @@ pub fn has_room(n: usize, out: &[u8], at: usize) -> bool
     n <= room - at
 }
 
-// At most so many.
-fn least(n: usize, most: usize) -> usize
-    ensures { result ≡ min n most }
-{
-    if n < most {
-        return n;
-    }
-    most
-}
-
 // The first `count` records, or as many as there are, each on a line 11. Answers the place behind them.
 pub fn reply_lines(records: &[u8], count: usize, out: &mut [u8], at: usize) -> usize
     ensures { WritePost (first_lines count records.now) at out.old result out.new }
 {
-    let n = least(count, records.len() / RECORD);
+    let n = count.min(records.len() / RECORD);
     let room = out.len();
     if room < at {
         return at;
@@ -84,26 +88,30 @@ pub fn totals_bytes(t: Totals) -> [u8; TOTALS]
     ]
 }
 
+// A line of a kind and at most the bytes of the totals. Answers the place behind it.
+fn line(kind: u8, body: &[u8], out: &mut [u8], at: usize) -> usize
+    requires { length body.now ≤ totals_size }
+    ensures { WritePost (written (kind ∷ body.now)) at out.old result out.new }
+{
+    let n = 2 * body.len() + 3;
+    if !has_room(n, out, at) {
+        return at;
+    }
+    put_line(kind, body, out, at);
+    at + n
+}
+
 // The totals on a line 12. Answers the place behind it.
 pub fn totals_line(t: Totals, out: &mut [u8], at: usize) -> usize
     ensures { WritePost (totals_line_lem t) at out.old result out.new }
 {
-    if !has_room(TOTALS_LINE, out, at) {
-        return at;
-    }
-    let body = totals_bytes(t);
-    put_line(18, &body, out, at);
-    at + TOTALS_LINE
+    line(Kind::Totals as u8, &totals_bytes(t), out, at)
 }
 
 // The number of a refusal on a line 1f. Answers the place behind it.
+// Stays: a number, since docs/PROMISES.md names this function, and a `Refusal` in its place would ask more of its callers (what may not change).
 pub fn refusal_line(number: u8, out: &mut [u8], at: usize) -> usize
     ensures { WritePost (refusal_line_lem number) at out.old result out.new }
 {
-    if !has_room(5, out, at) {
-        return at;
-    }
-    let body = [number];
-    put_line(31, &body, out, at);
-    at + 5
+    line(Kind::Refusal as u8, &[number], out, at)
 }

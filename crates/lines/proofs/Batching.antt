@@ -29,10 +29,10 @@ use Rattle.calls.specs.declared.Answered.{Answered}
 use Rattle.processor.specs.State.{Sweep, none, running, Sound, Made}
 use Rattle.calls.specs.Post.{longer, take_answer_at, TakePost}
 use Rattle.rules.proofs.Answers.{standard_allowed, took, join_assoc, join_nothing}
-use Rattle.reading.specs.declared.Line.{Line}
+use Rattle.rules.specs.declared.Refusal.{Refusal}
 use Rattle.reading.specs.Frames.{Reading, opening, samples, closing, reading, refused as unread}
 use Rattle.frames.specs.Writing.{reply_line, reply_lines_lem, first_lines}
-use Rattle.reading.specs.Post.{line_of, flags_after, values_after, ReadPost}
+use Rattle.reading.specs.Post.{Line, line_of, flags_after, values_after, ReadPost}
 use Rattle.frames.specs.Post.{WritePost}
 use Rattle.reading.proofs.Sizes.{Sized, reading_sized}
 use Rattle.lines.specs.declared.batch.Gathering.{Gathering}
@@ -322,7 +322,7 @@ module _ (p : Processor) (T : Trace) (from to at : ℕ) (b : List ℕ) (room : a
   few none = omega arith
   few (running ω T₀) = omega (arith, fresh-most standard T₀ T)
 
-  pub all-refused : (k : ℕ) → t.answer ≡ Err k → TookAll p T from to at b (record { processor = t.processor; from = from; at = at }) b
+  pub all-refused : (k : Refusal) → t.answer ≡ Err k → TookAll p T from to at b (record { processor = t.processor; from = from; at = at }) b
   all-refused k e =
       record {
         either = inl refl;

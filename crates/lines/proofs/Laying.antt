@@ -9,6 +9,7 @@ use lib.Dec.{leb, ltb, eqb}
 use lib.ListN.{length, get_or, take, drop, length-append, length-drop}
 use lib.Seq.{get_or-take, get_or-drop, length-take-le, take-append_seam, drop-append_seam, drop-drop}
 use borrow.Author.Tests.{eqb-true, ltb-true, ltb-false}
+use Rattle.rules.specs.declared.Refusal.TheVariants.{Malformed, NoFrame}
 use Rattle.rules.specs.Samples.{Trace}
 use Rattle.rules.proofs.Truth.{impossible, and_left, and_right}
 use Rattle.reading.specs.Frames.{Reading, opening, samples, closing, bytes, digits, ended, well_formed_lem, flags_in, values_in, opening_of, samples_of, closing_of, frame, reading, refused as unread}
@@ -42,8 +43,8 @@ samples-count : (l : List ℕ) → is_samples (samples_of l) ≡ true → length
 unfolding is_samples flag_count
 samples-count l = go (leb 2 (length l)) (eqb (length l % 2) 0) refl
   where
-    go : (a b : Bool) → eqb (length l % 2) 0 ≡ b → is_samples (cond (a && b) (samples (record { flags = flags_in l; values = values_in l })) (unread 10)) ≡ true
-        → length l ≡ 2 * flag_count (cond (a && b) (samples (record { flags = flags_in l; values = values_in l })) (unread 10))
+    go : (a b : Bool) → eqb (length l % 2) 0 ≡ b → is_samples (cond (a && b) (samples (record { flags = flags_in l; values = values_in l })) (unread NoFrame)) ≡ true
+        → length l ≡ 2 * flag_count (cond (a && b) (samples (record { flags = flags_in l; values = values_in l })) (unread NoFrame))
     go true true e h = omega (arith, flags-length l (length l / 2) (omega (arith, eqb-true (length l % 2) 0 e)), eqb-true (length l % 2) 0 e)
     go true false e h = absurd (impossible (sym h))
     go false b e h = absurd (impossible (sym h))
@@ -54,13 +55,13 @@ frame-count [] h = absurd (impossible (sym h))
 frame-count (kind ∷ l) h = go (eqb kind 1) (eqb kind 2) h
   where
     opens : is_samples (opening_of l) ≡ false
-    opens = either-not (eqb (length l) 3) (opening (record { mode = get_or l 0 0; azimuth = 256 * get_or l 1 0 + get_or l 2 0 })) (unread 10) refl refl
+    opens = either-not (eqb (length l) 3) (opening (record { mode = get_or l 0 0; azimuth = 256 * get_or l 1 0 + get_or l 2 0 })) (unread NoFrame) refl refl
 
-    closes : is_samples (cond (eqb kind 3) (closing_of l) (unread 10)) ≡ false
-    closes = either-not (eqb kind 3) (closing_of l) (unread 10) (either-not (eqb (length l) 0) closing (unread 10) refl refl) refl
+    closes : is_samples (cond (eqb kind 3) (closing_of l) (unread NoFrame)) ≡ false
+    closes = either-not (eqb kind 3) (closing_of l) (unread NoFrame) (either-not (eqb (length l) 0) closing (unread NoFrame) refl refl) refl
 
-    go : (a b : Bool) → is_samples (cond a (opening_of l) (cond b (samples_of l) (cond (eqb kind 3) (closing_of l) (unread 10)))) ≡ true
-        → length (kind ∷ l) ≡ 2 * flag_count (cond a (opening_of l) (cond b (samples_of l) (cond (eqb kind 3) (closing_of l) (unread 10)))) + 1
+    go : (a b : Bool) → is_samples (cond a (opening_of l) (cond b (samples_of l) (cond (eqb kind 3) (closing_of l) (unread NoFrame)))) ≡ true
+        → length (kind ∷ l) ≡ 2 * flag_count (cond a (opening_of l) (cond b (samples_of l) (cond (eqb kind 3) (closing_of l) (unread NoFrame)))) + 1
     go true b h = absurd (impossible (sym h ∙ opens))
     go false true h = omega (arith, samples-count l h)
     go false false h = absurd (impossible (sym h ∙ closes))
@@ -75,13 +76,13 @@ well : (l : List ℕ) (P : Trace) → reading l ≡ samples P → well_formed_le
 unfolding reading is_samples
 well l P = go (well_formed_lem l)
   where
-    go : (b : Bool) → cond b (frame (bytes (digits l))) (unread 9) ≡ samples P → b ≡ true
+    go : (b : Bool) → cond b (frame (bytes (digits l))) (unread Malformed) ≡ samples P → b ≡ true
     go true e = refl
     go false e = absurd (impossible (sym (ap is_samples e)))
 
 framed_so : (l : List ℕ) → well_formed_lem l ≡ true → reading l ≡ frame (bytes (digits l))
 unfolding reading
-framed_so l w = ap (λ (b : Bool). cond b (frame (bytes (digits l))) (unread 9)) w
+framed_so l w = ap (λ (b : Bool). cond b (frame (bytes (digits l))) (unread Malformed)) w
 
 says_newline : (l : List ℕ) → well_formed_lem l ≡ true → ended l ≡ true
 unfolding well_formed_lem

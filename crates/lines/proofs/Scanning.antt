@@ -10,10 +10,12 @@ use lib.ListN.{length, get_or, take, drop, length-append, length-drop, take-appe
 use lib.Seq.{get_or-take, get_or-drop, length-take-le, drop-drop, take-suc}
 use borrow.Author.Tests.{leb-true, leb-false, eqb-true, eqb-false, ne_eqb}
 use Rattle.rules.specs.declared.Opening.{Opening}
+use Rattle.rules.specs.declared.Refusal.{Refusal}
+use Rattle.rules.specs.declared.Refusal.TheVariants.{Malformed}
 use Rattle.rules.specs.Lists.{All}
 use Rattle.rules.specs.Samples.{Trace}
 use Rattle.rules.specs.Buffers.{over-at}
-use Rattle.rules.specs.Calls.{Answer, accepted, refused, open_answer, close_room}
+use Rattle.rules.specs.Calls.{number_of, Answer, accepted, refused, open_answer, close_room}
 use Rattle.rules.proofs.ListLaws.{all_append}
 use Rattle.rules.proofs.Buffers.{over-at-nil, over-at-next}
 use Rattle.processor.specs.declared.Processor.{Processor}
@@ -89,7 +91,7 @@ lines_begin (c ∷ d ∷ l) Y h s =
 -- ---- what the first line prints, and then the others
 
 -- 259 bytes without a newline are refused, whatever comes behind them
-long_nine : (l m : List ℕ) → Plain l → length l ≡ 259 → reading (l ++ m) ≡ unread 9
+long_nine : (l m : List ℕ) → Plain l → length l ≡ 259 → reading (l ++ m) ≡ unread Malformed
 long_nine l [] h s =
     ap reading (append-nil l) ∙ no_newline l (plain_last l h (omega (arith, s)))
 long_nine l (c ∷ m) h s = too_long (l ++ c ∷ m) (omega (arith, s, length-append l (c ∷ m)))
@@ -184,11 +186,6 @@ kind_of (Goes e) = 0
 kind_of (Stops k e) = 1
 kind_of Full = 2
 
-number_in : Step → ℕ
-number_in (Goes e) = 0
-number_in (Stops k e) = k
-number_in Full = 0
-
 record Went (t : Bool) (o : Outcome) (place : ℕ) (s : Stepped) (e : ℕ) : Type 0 where
   room : t ≡ true
   next : Sweep
@@ -211,20 +208,20 @@ went true (goes σ l) q place s e is h =
 went true (stops k) q place s e is h = absurd (omega (arith, ap kind_of (sym h ∙ ap (λ (x : Stepped). x.step) is)))
 went false o q place s e is h = absurd (omega (arith, ap kind_of (sym h ∙ ap (λ (x : Stepped). x.step) is)))
 
-pub record Stood (t : Bool) (o : Outcome) (q : Processor) (place : ℕ) (s : Stepped) (k e : ℕ) : Type 0 where
+pub record Stood (t : Bool) (o : Outcome) (q : Processor) (place : ℕ) (s : Stepped) (k : Refusal) (e : ℕ) : Type 0 where
   pub room : t ≡ true
   pub is : o ≡ stops k
-  pub to : e ≡ place + length (refusal_line_lem k)
+  pub to : e ≡ place + length (refusal_line_lem (number_of k))
   pub made : s.processor ≡ q
 
-pub stood : (t : Bool) (o : Outcome) (q : Processor) (place : ℕ) (s : Stepped) (k e : ℕ) → s ≡ stepped_as t o q place → s.step ≡ Stops k e → Stood t o q place s k e
-unfolding kind_of number_in
+pub stood : (t : Bool) (o : Outcome) (q : Processor) (place : ℕ) (s : Stepped) (k : Refusal) (e : ℕ) → s ≡ stepped_as t o q place → s.step ≡ Stops k e → Stood t o q place s k e
+unfolding kind_of
 stood true (goes σ l) q place s k e is h = absurd (omega (arith, ap kind_of (sym h ∙ ap (λ (x : Stepped). x.step) is)))
 stood true (stops j) q place s k e is h =
     let both = sym h ∙ ap (λ (x : Stepped). x.step) is in
     record {
       room = refl;
-      is = ap stops (ap number_in (sym both));
+      is = cc;
       to = ap (λ (x : Step). place_of x 0) both;
       made = ap (λ (x : Stepped). x.processor) is;
     }
@@ -331,7 +328,7 @@ module _ (p : Processor) (input : List ℕ) (from at : ℕ) (b₀ : List ℕ) wh
             go x = omega (arith, step.inside (omega (arith, h.size)), ap (λ (y : Step). place_of y place) kind, h.size)
 
       -- a refusal is the last that is printed
-      module _ (k e : ℕ) (kind : s.step ≡ Stops k e) where
+      module _ (k : Refusal) (e : ℕ) (kind : s.step ≡ Stops k e) where
         pub scanned_stop : ScanPost p input from at b₀ (record { scan = Stopped k; processor = s.processor; from = to; at = e }) b'
         scanned_stop =
             record {
@@ -350,19 +347,19 @@ module _ (p : Processor) (input : List ℕ) (from at : ℕ) (b₀ : List ℕ) wh
                 let o = line_at d.next (part input i to) in
                 let w = stood (has_room_lem place b) o q place s k e (step.result d.next d.made) kind in
                 let room = leb-true (place + line_most) (length b) w.room in
-                let out : b' ≡ over-at (refusal_line_lem k) place b =
+                let out : b' ≡ over-at (refusal_line_lem (number_of k)) place b =
                 step.output d.next d.made ∙ ap₂ (λ (t : Bool) (x : Outcome). output_as t x place b) w.room w.is in
                 record {
-                  new = d.new ++ refusal_line_lem k;
+                  new = d.new ++ refusal_line_lem (number_of k);
                   next = d.next;
                   made = record { is = w.made ∙ d.made.is; sound = d.made.sound };
-                  place = omega (arith, w.to, d.place, length-append d.new (refusal_line_lem k));
-                  output = over-at-next d.new (refusal_line_lem k) b₀ b b' at place d.place (omega (arith, room, h.size)) d.output out;
+                  place = omega (arith, w.to, d.place, length-append d.new (refusal_line_lem (number_of k)));
+                  output = over-at-next d.new (refusal_line_lem (number_of k)) b₀ b b' at place d.place (omega (arith, room, h.size)) d.output out;
                   why = record { from = i; line = line; refused = w.is; before = d.new; printed-last = refl };
                   same = λ R.
                       d.same R
                       ∙ ap (λ (x : List ℕ). d.new ++ x) (survey-first input i to line R d.next ∙ ap (λ (x : Outcome). further x (surveyed (lines_in (drop to input ++ R)))) w.is)
-                      ∙ sym (append-nil (d.new ++ refusal_line_lem k));
+                      ∙ sym (append-nil (d.new ++ refusal_line_lem (number_of k)));
                 }
 
       -- no room: nothing happened
@@ -399,7 +396,7 @@ lines_rest (c ∷ []) h s = rw (ne_eqb c 10 h.0) refl
 lines_rest (c ∷ d ∷ l) h s = rw (ne_eqb c 10 h.0) (ap (onto c) (lines_rest (d ∷ l) h.1 (omega arith)))
 
 -- bytes left without a newline are a last line, refused with 9
-pub survey-rest : (l : List ℕ) (σ : Sweep) → LinePast l 0 → 0 < length l → (surveyed (lines_in l) σ ≡ printed (line_at σ l)) × (line_at σ l ≡ stops 9)
+pub survey-rest : (l : List ℕ) (σ : Sweep) → LinePast l 0 → 0 < length l → (surveyed (lines_in l) σ ≡ printed (line_at σ l)) × (line_at σ l ≡ stops Malformed)
 unfolding surveyed
 survey-rest l σ h s =
     let n = rest_nine l σ h s in

@@ -9,6 +9,7 @@ use Rattle.rules.specs.Buffers.{over-at}
 use Rattle.processor.specs.declared.Processor.{Processor}
 use Rattle.processor.specs.State.{Sweep, none, idle_processor, processor_of, Made}
 use Rattle.lines.specs.declared.scan.Scan.{Scan}
+use Rattle.rules.specs.declared.Refusal.{Refusal}
 use Rattle.lines.specs.declared.scan.Scan.TheVariants.{Rest, Stopped, Full as NoRoom}
 use Rattle.lines.specs.declared.scan.Scanned.{Scanned}
 use Rattle.lines.specs.Survey.{lines_in, surveyed, survey}
@@ -69,7 +70,7 @@ module _ (p : Processor) (held new input : List ℕ) (from at : ℕ) (b : List �
       }
 
   -- a refusal is the end
-  stopping : (s : Scan) (k : ℕ) → r.scan ≡ Stopped k → From p held σ s (turn new input from at b r b' ∷ [])
+  stopping : (s : Scan) (k : Refusal) → r.scan ≡ Stopped k → From p held σ s (turn new input from at b r b' ∷ [])
   stopping s k e =
       record {
         next = d.next;

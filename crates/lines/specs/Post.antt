@@ -2,6 +2,8 @@
 use Rattle.std.specs.Prelude.{ℕ, ◌+◌, ◌-◌, ◌≤◌, ◌<◌, List, [], ◌++◌, ◌≡◌, length, take, drop}
 use Rattle.steps.specs.Post.{line_most}
 use Rattle.rules.specs.Buffers.{over-at}
+use Rattle.rules.specs.Calls.{number_of}
+use Rattle.rules.specs.declared.Refusal.{Refusal}
 use Rattle.processor.specs.declared.Processor.{Processor}
 use Rattle.processor.specs.State.{Sweep, Made}
 use Rattle.frames.specs.Writing.{refusal_line_lem}
@@ -19,17 +21,17 @@ afterwards NoRoom ls σ = surveyed ls σ
 afterwards (Stopped k) ls σ = []
 
 -- the line that ends before `to` was refused with k, and its `1f` is the last that was printed
-pub record Refusal (k : ℕ) (input : List ℕ) (to : ℕ) (new : List ℕ) (σ : Sweep) : Type 0 where
+pub record StopsWith (k : Refusal) (input : List ℕ) (to : ℕ) (new : List ℕ) (σ : Sweep) : Type 0 where
   pub from : ℕ
   pub line : LineEnd input from to
   pub refused : line_at σ (take (to - from) (drop from input)) ≡ stops k
   pub before : List ℕ
-  pub printed-last : new ≡ before ++ refusal_line_lem k
+  pub printed-last : new ≡ before ++ refusal_line_lem (number_of k)
 
 abbrev pub WhyEnded : Scan → List ℕ → ℕ → List ℕ → Sweep → Type 0
 WhyEnded Rest input to new σ = Unit {0}
 WhyEnded NoRoom input to new σ = Unit {0}
-WhyEnded (Stopped k) input to new σ = Refusal k input to new σ
+WhyEnded (Stopped k) input to new σ = StopsWith k input to new σ
 
 -- From the sweep σ on: `new` was printed, and `next` is the sweep then. Whatever bytes R come behind the input, what the survey prints for both
 -- is what was printed, and then what it prints for the rest.

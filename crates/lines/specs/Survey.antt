@@ -1,5 +1,6 @@
 -- "The survey program reads standard input, prints, and stops at end of input or at the first refusal."
 use Rattle.std.specs.Prelude.{ℕ, cond, List, [], ◌∷◌, ◌++◌, eqb}
+use Rattle.rules.specs.Calls.{number_of}
 use Rattle.processor.specs.State.{Sweep, none}
 use Rattle.frames.specs.Writing.{refusal_line_lem}
 use Rattle.steps.specs.Outcomes.{Outcome, goes, stops, line_at}
@@ -15,7 +16,7 @@ lines_in (c ∷ input) = cond (eqb c 10) ((c ∷ []) ∷ lines_in input) (onto c
 
 abbrev pub further : Outcome → (Sweep → List ℕ) → List ℕ
 further (goes σ l) more = l ++ more σ
-further (stops k) more = refusal_line_lem k
+further (stops k) more = refusal_line_lem (number_of k)
 
 -- what the lines print from a sweep on
 unfoldable pub surveyed : List (List ℕ) → Sweep → List ℕ

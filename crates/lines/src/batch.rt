@@ -3,8 +3,7 @@ ghost use Rattle.std.specs.Prelude.{◌+◌, ◌≤◌, ◌≡◌, length};
 ghost use Rattle.steps.specs.Post.{count_in_lem, piece_of};
 ghost use Rattle.lines.specs.Batches.{begins_samples, AddPost, Parts, GatherPost, TakeAllPost, BatchPost};
 
-use calls::Answer;
-use ends::{End, line_end};
+use ends::line_end;
 use frames::{REPLY_LINE, has_room, reply_lines};
 use processor::Processor;
 use reading::{Frame, Line, read};
@@ -33,17 +32,14 @@ pub struct Batched {
     pub at: usize,
 }
 
+// How many samples a line says: none where it says something else.
 fn count_in(line: Line) -> usize
     ensures { result ≡ count_in_lem line }
 {
-    let Line::Frame(frame) = line else {
+    let Ok(Frame::Samples(n)) = line else {
         return 0;
     };
-    match frame {
-        Frame::Open(_) => 0,
-        Frame::Samples(n) => n,
-        Frame::Close => 0,
-    }
+    n
 }
 
 // The samples of a line, from place n of the two buffers on; what stands behind them is of no use. Answers how many: none where the line says
@@ -64,8 +60,7 @@ fn gather(input: &[u8], from: usize, flags: &mut [u8], values: &mut [u8]) -> Gat
     let mut i = from;
     let mut n: usize = 0;
     while n <= 4032 {
-        let e = line_end(input, i);
-        let End::At(end) = e else {
+        let Some(end) = line_end(input, i) else {
             return Gathering { end: i, n };
         };
         let k = add_samples(&input[i..end], flags, values, n);
@@ -100,18 +95,16 @@ fn take_all(
     }
     let mut handed = [0u8; ROOM];
     let t = take(p, flags, values, &mut handed);
-    let answer = t.answer;
-    let next = t.processor;
-    match answer {
+    match t.answer {
         Err(_) => Batched {
-            processor: next,
+            processor: t.processor,
             from,
             at,
         },
         Ok(count) => {
             let end = reply_lines(&handed, count, out, at);
             Batched {
-                processor: next,
+                processor: t.processor,
                 from: to,
                 at: end,
             }
@@ -153,8 +146,7 @@ fn take_lines(
     let mut a: usize = 0;
     let mut place = at;
     while i < to {
-        let e = line_end(input, i);
-        let End::At(end) = e else {
+        let Some(end) = line_end(input, i) else {
             return Batched {
                 processor: q,
                 from: i,

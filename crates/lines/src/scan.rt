@@ -3,8 +3,9 @@ ghost use Rattle.lines.specs.Post.{ScanPost};
 
 use super::batch::batch;
 use answers::line_step;
-use ends::{End, line_end};
+use ends::line_end;
 use processor::Processor;
+use rules::Refusal;
 use steps::Step;
 
 // What a scan came to: the rest of the input is the start of a line; the output has no more room; or a refusal has stopped the survey.
@@ -12,7 +13,7 @@ use steps::Step;
 pub enum Scan {
     Rest,
     Full,
-    Stopped(u8),
+    Stopped(Refusal),
 }
 
 // `from` is the place in the input behind the last line carried out, `at` that in the output behind the last byte printed.
@@ -36,8 +37,7 @@ pub fn scan_lines(p: Processor, input: &[u8], from: usize, out: &mut [u8], at: u
         q = b.processor;
         i = b.from;
         place = b.at;
-        let e = line_end(input, i);
-        let End::At(end) = e else {
+        let Some(end) = line_end(input, i) else {
             return Scanned {
                 scan: Scan::Rest,
                 processor: q,
@@ -46,16 +46,15 @@ pub fn scan_lines(p: Processor, input: &[u8], from: usize, out: &mut [u8], at: u
             };
         };
         let s = line_step(q, &input[i..end], out, place);
-        let how = s.step;
         q = s.processor;
-        match how {
+        match s.step {
             Step::Goes(after) => {
                 i = end;
                 place = after;
             }
-            Step::Stops(number, after) => {
+            Step::Stops(refusal, after) => {
                 return Scanned {
-                    scan: Scan::Stopped(number),
+                    scan: Scan::Stopped(refusal),
                     processor: q,
                     from: end,
                     at: after,

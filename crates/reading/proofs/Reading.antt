@@ -8,13 +8,14 @@ use lib.Dec.{leb, eqb}
 use lib.ListN.{length, get_or, take}
 use borrow.Author.Tests.{leb-true, eqb-true, lt-leb, le-leb, eq-eqb, ne_eqb}
 use Rattle.rules.proofs.Truth.{and_left, and_right}
-use Rattle.reading.specs.declared.Line.TheVariants.{Frame as Framed, Refused}
+use Rattle.std.specs.Prelude.{Ok, Err}
+use Rattle.rules.specs.declared.Refusal.TheVariants.{Malformed, NoFrame}
 use Rattle.reading.specs.declared.Frame.TheVariants.{Open, Samples, Close}
 use Rattle.reading.specs.Frames.{Reading, opening, samples, closing, refused, digits, ended, well_formed_lem, bytes, flags_in, values_in, opening_of, samples_of, closing_of, frame, reading}
-use Rattle.characters.specs.Characters.{are_digits_lem}
+use Rattle.characters.specs.Characters.{are_digits_lem, Digits}
 use Rattle.rules.specs.Buffers.{over}
 use Rattle.reading.specs.Post.{line_of, flags_after, values_after, behind, AllDigits, FillPost, ReadPost}
-use Rattle.reading.proofs.Pairs.{byte, kind-first, behind-length, behind-at, flags-length}
+use Rattle.reading.proofs.Pairs.{byte, two_digits, kind-first, behind-length, behind-at, flags-length}
 
 -- what a well formed line is
 pub record Formed (l : List ℕ) : Type 0 where
@@ -41,11 +42,6 @@ formed l h =
       all = record { room = omega arith; all = and_right d e h₃ };
     }
 
-pub samples-digits : (l : List ℕ) → Formed l → (n : ℕ) → (length l - 1) % 4 ≡ 2 → n ≡ (length l - 1) / 4 → AllDigits l (4 * n + 2)
-samples-digits l h n o e =
-    let whole : length l - 1 ≡ 4 * n + 2 = omega (arith, o, e) in
-    record { room = omega (arith, whole, h.two); all = ap (λ (i : ℕ). are_digits_lem (take i l)) (sym whole) ∙ h.all.all }
-
 post : (l f v : List ℕ) (x : Reading) → reading l ≡ x → ReadPost l f v (line_of x) (flags_after x f) (values_after x v)
 post l f v x e =
     record {
@@ -54,44 +50,60 @@ post l f v x e =
       value_bytes = ap (λ (y : Reading). values_after y v) (sym e);
     }
 
-pub read_9 : (l f v : List ℕ) → well_formed_lem l ≡ false → ReadPost l f v (Refused 9) f v
+pub read_9 : (l f v : List ℕ) → well_formed_lem l ≡ false → ReadPost l f v (Err Malformed) f v
 unfolding reading
-read_9 l f v h = post l f v (refused 9) (ap (λ b. cond b (frame (bytes (digits l))) (refused 9)) h)
+read_9 l f v h = post l f v (refused Malformed) (ap (λ b. cond b (frame (bytes (digits l))) (refused Malformed)) h)
 
-module _ (l f v : List ℕ) (w : well_formed_lem l ≡ true) (h : Formed l) where
+module _ (l f v : List ℕ) (w : well_formed_lem l ≡ true) where
+  h : Formed l
+  h = formed l w
+
   abbrev m : ℕ
   m = length l - 1
 
   abbrev half : ℕ
   half = (length l - 3) / 2
 
+  -- the two digits at an even place k
+  pub kind_digits : Digits l 0
+  kind_digits = two_digits l m 0 h.all (omega (arith, h.two, h.odd))
+
+  pub opening_digits : (k : ℕ) → m ≡ 8 → k ≤ 6 → Digits l k
+  opening_digits k n s = two_digits l m k h.all (omega (arith, n, s))
+
+  -- room for the samples, whose digits are all there
+  pub samples_fit : 64 ≤ length f → 64 ≤ length v → m % 4 ≡ 2 → (m / 4 ≤ 64) × (m / 4 ≤ length f) × (m / 4 ≤ length v) × AllDigits l (4 * (m / 4) + 2)
+  samples_fit a b o =
+      let whole : m ≡ 4 * (m / 4) + 2 = omega (arith, o) in
+      (omega (arith, h.most), omega (arith, h.most, a), omega (arith, h.most, b), record { room = omega (arith, whole, h.two); all = ap (λ (i : ℕ). are_digits_lem (take i l)) (sym whole) ∙ h.all.all })
+
   even : m ≡ 2 * half + 2
   even = omega (arith, h.two, h.odd)
 
   framed : reading l ≡ frame (byte l 0 ∷ behind l m)
   unfolding reading
-  framed = ap (λ b. cond b (frame (bytes (digits l))) (refused 9)) w ∙ ap frame (kind-first l m (omega (arith, h.two, h.odd)) (omega arith))
+  framed = ap (λ b. cond b (frame (bytes (digits l))) (refused Malformed)) w ∙ ap frame (kind-first l m (omega (arith, h.two, h.odd)) (omega arith))
 
   size : length (behind l m) ≡ half
   size = behind-length l m half (omega arith) even
 
-  pub read_other : (byte l 0 ≡ 1 → ⊥) → (byte l 0 ≡ 2 → ⊥) → (byte l 0 ≡ 3 → ⊥) → ReadPost l f v (Refused 10) f v
-  read_other a b c = post l f v (refused 10) (framed ∙ rw (ne_eqb (byte l 0) 1 a, ne_eqb (byte l 0) 2 b, ne_eqb (byte l 0) 3 c))
+  pub read_other : (byte l 0 ≡ 1 → ⊥) → (byte l 0 ≡ 2 → ⊥) → (byte l 0 ≡ 3 → ⊥) → ReadPost l f v (Err NoFrame) f v
+  read_other a b c = post l f v (refused NoFrame) (framed ∙ rw (ne_eqb (byte l 0) 1 a, ne_eqb (byte l 0) 2 b, ne_eqb (byte l 0) 3 c))
 
   -- ---- open
 
   first : byte l 0 ≡ 1 → reading l ≡ opening_of (behind l m)
   first k = framed ∙ rw (eq-eqb (byte l 0) 1 k)
 
-  pub read-open_10 : byte l 0 ≡ 1 → (m ≡ 8 → ⊥) → ReadPost l f v (Refused 10) f v
-  read-open_10 k n = post l f v (refused 10) (first k ∙ rw (ne_eqb (length (behind l m)) 3 (λ e. n (omega (arith, e, size, even)))))
+  pub read-open_10 : byte l 0 ≡ 1 → (m ≡ 8 → ⊥) → ReadPost l f v (Err NoFrame) f v
+  read-open_10 k n = post l f v (refused NoFrame) (first k ∙ rw (ne_eqb (length (behind l m)) 3 (λ e. n (omega (arith, e, size, even)))))
 
   pub read-open : byte l 0 ≡ 1 → m ≡ 8 → (mode high low : ℕ) → mode ≡ byte l 2 → high ≡ byte l 4 → low ≡ byte l 6
-      → ReadPost l f v (Framed (Open (record { mode = mode; azimuth = 256 * high + low }))) f v
+      → ReadPost l f v (Ok (Open (record { mode = mode; azimuth = 256 * high + low }))) f v
   read-open k n mode high low a b c =
       post l f v (opening (record { mode = mode; azimuth = 256 * high + low }))
       (first k
-      ∙ ap (λ t. cond t (opening (record { mode = get_or (behind l m) 0 0; azimuth = 256 * get_or (behind l m) 1 0 + get_or (behind l m) 2 0 })) (refused 10))
+      ∙ ap (λ t. cond t (opening (record { mode = get_or (behind l m) 0 0; azimuth = 256 * get_or (behind l m) 1 0 + get_or (behind l m) 2 0 })) (refused NoFrame))
       (eq-eqb (length (behind l m)) 3 (omega (arith, size, even, n)))
       ∙ ap₂ (λ (x y : ℕ). opening (record { mode = x; azimuth = y })) (behind-at l m 0 (omega arith) (omega (arith, n)) ∙ sym a)
       (ap₂ (λ (x y : ℕ). 256 * x + y) (behind-at l m 1 (omega arith) (omega (arith, n)) ∙ sym b) (behind-at l m 2 (omega arith) (omega (arith, n)) ∙ sym c)))
@@ -101,31 +113,31 @@ module _ (l f v : List ℕ) (w : well_formed_lem l ≡ true) (h : Formed l) wher
   second : byte l 0 ≡ 2 → reading l ≡ samples_of (behind l m)
   second k = framed ∙ rw (ne_eqb (byte l 0) 1 (λ e. omega (arith, e, k)), eq-eqb (byte l 0) 2 k)
 
-  pub read_uneven : byte l 0 ≡ 2 → (m % 4 ≡ 2 → ⊥) → ReadPost l f v (Refused 10) f v
+  pub read_uneven : byte l 0 ≡ 2 → (m % 4 ≡ 2 → ⊥) → ReadPost l f v (Err NoFrame) f v
   read_uneven k n =
-      post l f v (refused 10)
-      (second k ∙ ap (λ t. cond t (samples (record { flags = flags_in (behind l m); values = values_in (behind l m) })) (refused 10)) (go (leb 2 (length (behind l m)))))
+      post l f v (refused NoFrame)
+      (second k ∙ ap (λ t. cond t (samples (record { flags = flags_in (behind l m); values = values_in (behind l m) })) (refused NoFrame)) (go (leb 2 (length (behind l m)))))
     where
       go : (t : Bool) → (t && eqb (length (behind l m) % 2) 0) ≡ false
       go false = refl
       go true = ne_eqb (length (behind l m) % 2) 0 (λ e. n (omega (arith, e, size, even)))
 
-  pub read_none : byte l 0 ≡ 2 → m < 6 → m % 4 ≡ 2 → ReadPost l f v (Refused 10) f v
+  pub read_none : byte l 0 ≡ 2 → m < 6 → m % 4 ≡ 2 → ReadPost l f v (Err NoFrame) f v
   read_none k n o =
-      post l f v (refused 10) (second k ∙ rw (lt-leb 2 (length (behind l m)) (omega (arith, size, even, n, o))))
+      post l f v (refused NoFrame) (second k ∙ rw (lt-leb 2 (length (behind l m)) (omega (arith, size, even, n, o))))
 
-  pub read-samples : byte l 0 ≡ 2 → m % 4 ≡ 2 → 6 ≤ m → (n : ℕ) → n ≡ m / 4 → (f' v' : List ℕ) → FillPost l n f v f' v' → ReadPost l f v (Framed (Samples n)) f' v'
-  read-samples k o s n e f' v' p =
+  pub read-samples : byte l 0 ≡ 2 → m % 4 ≡ 2 → 6 ≤ m → (f' v' : List ℕ) → FillPost l (m / 4) f v f' v' → ReadPost l f v (Ok (Samples (m / 4))) f' v'
+  read-samples k o s f' v' p =
       record {
-        result = ap (λ (k : ℕ). Framed (Samples k)) (sym (flags-length (behind l m) n both)) ∙ ap line_of (sym is);
+        result = ap (λ (k : ℕ). Ok (Samples k)) (sym (flags-length (behind l m) (m / 4) both)) ∙ ap line_of (sym is);
         flag_bytes = p.flag_bytes ∙ ap (λ (i : ℕ). over (flags_in (behind l i)) f) whole ∙ ap (λ (y : Reading). flags_after y f) (sym is);
         value_bytes = p.value_bytes ∙ ap (λ (i : ℕ). over (values_in (behind l i)) v) whole ∙ ap (λ (y : Reading). values_after y v) (sym is);
       }
     where
-      whole : 4 * n + 2 ≡ m
-      whole = omega (arith, e, o)
+      whole : 4 * (m / 4) + 2 ≡ m
+      whole = omega (arith, o)
 
-      both : length (behind l m) ≡ 2 * n
+      both : length (behind l m) ≡ 2 * (m / 4)
       both = omega (arith, size, even, whole)
 
       is : reading l ≡ samples (record { flags = flags_in (behind l m); values = values_in (behind l m) })
@@ -140,8 +152,8 @@ module _ (l f v : List ℕ) (w : well_formed_lem l ≡ true) (h : Formed l) wher
       framed
       ∙ rw (ne_eqb (byte l 0) 1 (λ e. omega (arith, e, k)), ne_eqb (byte l 0) 2 (λ e. omega (arith, e, k)), eq-eqb (byte l 0) 3 k)
 
-  pub read-close_10 : byte l 0 ≡ 3 → (m ≡ 2 → ⊥) → ReadPost l f v (Refused 10) f v
-  read-close_10 k n = post l f v (refused 10) (third k ∙ rw (ne_eqb (length (behind l m)) 0 (λ e. n (omega (arith, e, size, even)))))
+  pub read-close_10 : byte l 0 ≡ 3 → (m ≡ 2 → ⊥) → ReadPost l f v (Err NoFrame) f v
+  read-close_10 k n = post l f v (refused NoFrame) (third k ∙ rw (ne_eqb (length (behind l m)) 0 (λ e. n (omega (arith, e, size, even)))))
 
-  pub read-close : byte l 0 ≡ 3 → m ≡ 2 → ReadPost l f v (Framed Close) f v
+  pub read-close : byte l 0 ≡ 3 → m ≡ 2 → ReadPost l f v (Ok Close) f v
   read-close k n = post l f v closing (third k ∙ rw (eq-eqb (length (behind l m)) 0 (omega (arith, size, even, n))))

@@ -9,6 +9,7 @@ use lib.ListN.{length, get_or, take, length-append}
 use borrow.Author.Tests.{lt-ltb, le-leb, lt-leb, eq-eqb, ltb-true, ltb-false}
 use Rattle.rules.specs.declared.Opening.{Opening}
 use Rattle.rules.specs.Lists.{All}
+use Rattle.rules.specs.declared.Refusal.TheVariants.{Malformed}
 use Rattle.reading.specs.Frames.{opening, samples, closing, refused, bytes, digits, well_formed_lem, flags_in, values_in, frame, reading}
 use Rattle.characters.specs.Characters.{digit, are_digits_lem}
 use Rattle.hexadecimal.specs.Digits.{glyph, hexadecimal, written}
@@ -91,7 +92,7 @@ module _ (l : List ℕ) (b : Bytes l) (some : 1 ≤ length l) (most : length l �
   pub reads-back : reading (written l) ≡ frame l
   unfolding reading
   reads-back =
-      ap (λ t. cond t (frame (bytes (digits line))) (refused 9)) well ∙ ap (λ (d : List ℕ). frame (bytes d)) before ∙ ap frame (same_bytes l b)
+      ap (λ t. cond t (frame (bytes (digits line))) (refused Malformed)) well ∙ ap (λ (d : List ℕ). frame (bytes d)) before ∙ ap frame (same_bytes l b)
 
 -- ---- the three calls
 

@@ -11,6 +11,7 @@ use borrow.Author.Tests.{ltb-true, ne_eqb, lt-leb}
 use Rattle.rules.specs.Lists.{All}
 use Rattle.rules.specs.Samples.{Trace}
 use Rattle.rules.proofs.Truth.{and_left, and_right}
+use Rattle.rules.specs.declared.Refusal.TheVariants.{Malformed, NoFrame}
 use Rattle.reading.specs.Frames.{Reading, opening, samples, closing, refused, bytes, digits, ended, well_formed_lem, flags_in, values_in, opening_of, samples_of, closing_of, frame, reading}
 use Rattle.characters.specs.Characters.{digit, is_digit_lem, are_digits_lem}
 use Rattle.reading.proofs.Reading.{formed}
@@ -69,18 +70,18 @@ values-bytes (f ∷ v ∷ l) h = (h.1.0, values-bytes l h.1.1)
 sized_frame : (d : List ℕ) → length d ≤ 129 → All Byte d → Sized (frame d)
 sized_frame [] n h = tt
 sized_frame (kind ∷ l) n h =
-    sized_cond (eqb kind 1) (opening_of l) (cond (eqb kind 2) (samples_of l) (cond (eqb kind 3) (closing_of l) (refused 10)))
-    (sized_cond (eqb (length l) 3) (opening (record { mode = get_or l 0 0; azimuth = 256 * get_or l 1 0 + get_or l 2 0 })) (refused 10) tt tt)
-    (sized_cond (eqb kind 2) (samples_of l) (cond (eqb kind 3) (closing_of l) (refused 10))
-    (sized_cond (leb 2 (length l) && eqb (length l % 2) 0) (samples (record { flags = flags_in l; values = values_in l })) (refused 10)
+    sized_cond (eqb kind 1) (opening_of l) (cond (eqb kind 2) (samples_of l) (cond (eqb kind 3) (closing_of l) (refused NoFrame)))
+    (sized_cond (eqb (length l) 3) (opening (record { mode = get_or l 0 0; azimuth = 256 * get_or l 1 0 + get_or l 2 0 })) (refused NoFrame) tt tt)
+    (sized_cond (eqb kind 2) (samples_of l) (cond (eqb kind 3) (closing_of l) (refused NoFrame))
+    (sized_cond (leb 2 (length l) && eqb (length l % 2) 0) (samples (record { flags = flags_in l; values = values_in l })) (refused NoFrame)
     (record { most = omega (arith, pairs_half l); alike = pairs-alike l; bytes = values-bytes l h.1 }) tt)
-    (sized_cond (eqb kind 3) (closing_of l) (refused 10) (sized_cond (eqb (length l) 0) closing (refused 10) tt tt) tt))
+    (sized_cond (eqb kind 3) (closing_of l) (refused NoFrame) (sized_cond (eqb (length l) 0) closing (refused NoFrame) tt tt) tt))
 
 pub reading_sized : (l : List ℕ) → Sized (reading l)
 unfolding reading
 reading_sized l = go (well_formed_lem l) refl
   where
-    go : (b : Bool) → well_formed_lem l ≡ b → Sized (cond b (frame (bytes (digits l))) (refused 9))
+    go : (b : Bool) → well_formed_lem l ≡ b → Sized (cond b (frame (bytes (digits l))) (refused Malformed))
     go false e = tt
     go true e =
         let f = formed l e in
@@ -89,20 +90,20 @@ reading_sized l = go (well_formed_lem l) refl
 -- ---- no line
 
 -- bytes without a newline at their end, or too many, are refused with 9
-pub no_newline : (l : List ℕ) → (get_or l (length l - 1) 0 ≡ 10 → ⊥) → reading l ≡ refused 9
+pub no_newline : (l : List ℕ) → (get_or l (length l - 1) 0 ≡ 10 → ⊥) → reading l ≡ refused Malformed
 unfolding reading well_formed_lem
 no_newline l h = go (leb 2 (length l)) (leb (length l) 259) (eqb (length l % 2) 1)
   where
-    go : (a b c : Bool) → cond (a && (b && (c && (ended l && are_digits_lem (digits l))))) (frame (bytes (digits l))) (refused 9) ≡ refused 9
+    go : (a b c : Bool) → cond (a && (b && (c && (ended l && are_digits_lem (digits l))))) (frame (bytes (digits l))) (refused Malformed) ≡ refused Malformed
     go true true true = rw (ne_eqb (get_or l (length l - 1) 0) 10 h)
     go true true false = refl
     go true false c = refl
     go false b c = refl
 
-pub too_long : (l : List ℕ) → 259 < length l → reading l ≡ refused 9
+pub too_long : (l : List ℕ) → 259 < length l → reading l ≡ refused Malformed
 unfolding reading well_formed_lem
 too_long l h = go (leb 2 (length l))
   where
-    go : (a : Bool) → cond (a && (leb (length l) 259 && (eqb (length l % 2) 1 && (ended l && are_digits_lem (digits l))))) (frame (bytes (digits l))) (refused 9) ≡ refused 9
+    go : (a : Bool) → cond (a && (leb (length l) 259 && (eqb (length l % 2) 1 && (ended l && are_digits_lem (digits l))))) (frame (bytes (digits l))) (refused Malformed) ≡ refused Malformed
     go true = rw (lt-leb (length l) 259 h)
     go false = refl

@@ -1,6 +1,8 @@
 -- Frames, one a line: what a line says.
 use Rattle.std.specs.Prelude.{ℕ, ◌+◌, ◌-◌, ◌*◌, ◌%◌, Bool, cond, ◌&&◌, List, [], ◌∷◌, leb, eqb, length, get_or, take}
 use Rattle.rules.specs.declared.Opening.{Opening}
+use Rattle.rules.specs.declared.Refusal.{Refusal}
+use Rattle.rules.specs.declared.Refusal.TheVariants.{Malformed, NoFrame}
 use Rattle.rules.specs.Samples.{Trace}
 use Rattle.characters.specs.Characters.{digit, are_digits_lem}
 
@@ -30,7 +32,7 @@ pub data Reading : Type 0 where
   opening : Opening → Reading
   samples : Trace → Reading
   closing : Reading
-  refused : ℕ → Reading
+  refused : Refusal → Reading
 
 -- flag, value pairs
 abbrev pub flags_in : List ℕ → List ℕ
@@ -45,20 +47,20 @@ values_in (f ∷ v ∷ l) = v ∷ values_in l
 
 -- "`01` mode (1 byte) azimuth (2); `02` with 1 to 64 flag, value pairs; `03` close." (258 digits have no more than 64 pairs.)
 abbrev pub opening_of : List ℕ → Reading
-opening_of l = cond (eqb (length l) 3) (opening (record { mode = get_or l 0 0; azimuth = 256 * get_or l 1 0 + get_or l 2 0 })) (refused 10)
+opening_of l = cond (eqb (length l) 3) (opening (record { mode = get_or l 0 0; azimuth = 256 * get_or l 1 0 + get_or l 2 0 })) (refused NoFrame)
 
 abbrev pub samples_of : List ℕ → Reading
-samples_of l = cond (leb 2 (length l) && eqb (length l % 2) 0) (samples (record { flags = flags_in l; values = values_in l })) (refused 10)
+samples_of l = cond (leb 2 (length l) && eqb (length l % 2) 0) (samples (record { flags = flags_in l; values = values_in l })) (refused NoFrame)
 
 abbrev pub closing_of : List ℕ → Reading
-closing_of l = cond (eqb (length l) 0) closing (refused 10)
+closing_of l = cond (eqb (length l) 0) closing (refused NoFrame)
 
 -- "10: unknown kind, or wrong length for it."
 abbrev pub frame : List ℕ → Reading
-frame [] = refused 10
-frame (kind ∷ l) = cond (eqb kind 1) (opening_of l) (cond (eqb kind 2) (samples_of l) (cond (eqb kind 3) (closing_of l) (refused 10)))
+frame [] = refused NoFrame
+frame (kind ∷ l) = cond (eqb kind 1) (opening_of l) (cond (eqb kind 2) (samples_of l) (cond (eqb kind 3) (closing_of l) (refused NoFrame)))
 
 -- "Each line's reading": 9 is tried before 10
 unfoldable pub reading : List ℕ → Reading
 unfolding well_formed_lem digit
-reading l = cond (well_formed_lem l) (frame (bytes (digits l))) (refused 9)
+reading l = cond (well_formed_lem l) (frame (bytes (digits l))) (refused Malformed)

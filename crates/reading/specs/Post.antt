@@ -1,18 +1,22 @@
 -- What reading a line answers, and what it leaves in the two buffers for samples.
-use Rattle.std.specs.Prelude.{ℕ, ◌+◌, ◌-◌, ◌*◌, ◌/◌, ◌%◌, ◌≤◌, ◌<◌, true, List, [], ◌∷◌, ◌≡◌, length, get_or, take, drop}
+use Rattle.std.specs.Prelude.{Result, Ok, Err, ℕ, ◌+◌, ◌-◌, ◌*◌, ◌/◌, ◌%◌, ◌≤◌, ◌<◌, true, List, [], ◌∷◌, ◌≡◌, length, get_or, take, drop}
 use Rattle.rules.specs.Buffers.{over}
-use Rattle.reading.specs.declared.Line.{Line}
-use Rattle.reading.specs.declared.Line.TheVariants.{Frame as Framed, Refused}
+use Rattle.rules.specs.declared.Refusal.{Refusal}
+use Rattle.reading.specs.declared.Frame.{Frame}
 use Rattle.reading.specs.declared.Frame.TheVariants.{Open, Samples, Close}
 use Rattle.reading.specs.Frames.{Reading, opening, samples, closing, refused, reading, bytes, flags_in, values_in}
 use Rattle.characters.specs.Characters.{digit, are_digits_lem}
 
+-- a frame, or why the line is refused
+abbrev pub Line : Type 0
+Line = Result Frame Refusal
+
 -- document 01's values for each case
 abbrev pub line_of : Reading → Line
-line_of (opening ω) = Framed (Open ω)
-line_of (samples P) = Framed (Samples (length P.flags))
-line_of closing = Framed Close
-line_of (refused k) = Refused k
+line_of (opening ω) = Ok (Open ω)
+line_of (samples P) = Ok (Samples (length P.flags))
+line_of closing = Ok Close
+line_of (refused k) = Err k
 
 abbrev pub flags_after : Reading → List ℕ → List ℕ
 flags_after (opening ω) b = b

@@ -1,4 +1,4 @@
-// Frames, one a line: what a line says, or the number with which it is refused.
+// Frames, one a line: what a line says, or why it is refused.
 #![tactic(auto)]
 
 mod samples;
@@ -8,7 +8,7 @@ ghost use Rattle.reading.specs.Frames.{well_formed_lem};
 ghost use Rattle.reading.specs.Post.{ReadPost};
 
 use characters::{are_digits, byte_at};
-use rules::Opening;
+use rules::{Opening, Refusal};
 use samples::fill;
 
 // Open, so many samples, or close.
@@ -20,11 +20,7 @@ pub enum Frame {
 }
 
 // What a line is: a frame, or refused with 9 or 10.
-#[derive(Clone, Copy)]
-pub enum Line {
-    Frame(Frame),
-    Refused(u8),
-}
+pub type Line = Result<Frame, Refusal>;
 
 // 9: empty, over 258 digits, odd, another character, or no final newline.
 fn well_formed(line: &[u8]) -> bool
@@ -52,37 +48,24 @@ pub fn read(line: &[u8], flags: &mut [u8], values: &mut [u8]) -> Line
     ensures { ReadPost line.now flags.old values.old result flags.new values.new }
 {
     if !well_formed(line) {
-        return Line::Refused(9);
+        return Err(Refusal::Malformed);
     }
     let m = line.len() - 1;
-    let kind = byte_at(line, 0);
-    if kind == 1 {
-        if m != 8 {
-            return Line::Refused(10);
+    match byte_at(line, 0) {
+        1 if m == 8 => {
+            let high = byte_at(line, 4) as u16;
+            let low = byte_at(line, 6) as u16;
+            Ok(Frame::Open(Opening {
+                mode: byte_at(line, 2),
+                azimuth: 256 * high + low,
+            }))
         }
-        let high = byte_at(line, 4) as u16;
-        let low = byte_at(line, 6) as u16;
-        return Line::Frame(Frame::Open(Opening {
-            mode: byte_at(line, 2),
-            azimuth: 256 * high + low,
-        }));
+        2 if m % 4 == 2 && 6 <= m => {
+            let n = m / 4;
+            fill(line, n, flags, values);
+            Ok(Frame::Samples(n))
+        }
+        3 if m == 2 => Ok(Frame::Close),
+        _ => Err(Refusal::NoFrame),
     }
-    if kind == 2 {
-        if m % 4 != 2 {
-            return Line::Refused(10);
-        }
-        if m < 6 {
-            return Line::Refused(10);
-        }
-        let n = m / 4;
-        fill(line, n, flags, values);
-        return Line::Frame(Frame::Samples(n));
-    }
-    if kind == 3 {
-        if m != 2 {
-            return Line::Refused(10);
-        }
-        return Line::Frame(Frame::Close);
-    }
-    Line::Refused(10)
 }

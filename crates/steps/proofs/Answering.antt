@@ -3,7 +3,7 @@ use Prim.Native.Nat.{ℕ, ◌+◌, ◌*◌, ◌≤◌}
 use native.Mathlib.Omega.{arith}
 use native.Mathlib.Nat.{add-zero}
 use mathlib.Core.Path.{◌≡◌, refl, sym, ap, ap₂, ◌∙◌, subst}
-use mathlib.Core.Bool.{Bool, true, false, true≢false}
+use mathlib.Core.Bool.{Bool, true, false}
 use mathlib.Core.List.{List, ◌++◌}
 use lib.Dec.{leb}
 use lib.ListN.{length, take, drop, length-append, length-drop}
@@ -16,7 +16,7 @@ use Rattle.rules.specs.Settings.{standard}
 use Rattle.rules.specs.Samples.{Trace, nothing}
 use Rattle.rules.specs.Buffers.{over, over-at}
 use Rattle.rules.specs.Records.{records, record_size}
-use Rattle.rules.specs.Calls.{Answer as RulesAnswer, accepted, refused, open_answer, close_room, most_left}
+use Rattle.rules.specs.Calls.{number_of, Answer as RulesAnswer, accepted, refused, open_answer, close_room, most_left}
 use Rattle.rules.proofs.Buffers.{over-at-nil, over-at-next}
 use Rattle.rules.proofs.HandingOut.{fresh-most, rest-most}
 use Rattle.calls.specs.Answers.{Answer}
@@ -27,13 +27,10 @@ use Rattle.calls.specs.declared.Closed.{Closed}
 use Rattle.processor.specs.State.{Sweep, none, running, processor_of, running_processor, Made}
 use Rattle.calls.specs.Post.{open_as, open_of, longer, handed_out, count_of, take_answer_at, take_as, take_buffer_as, TakePost, close_answer_at, left_over, left_count, totals_of_lem, close_as, close_buffer_as, ClosePost}
 use Rattle.rules.proofs.Answers.{standard_allowed}
-use Rattle.reading.specs.declared.Line.{Line}
-use Rattle.reading.specs.declared.Line.TheVariants.{Frame as Framed, Err as Unread}
-use Rattle.reading.specs.declared.Frame.{Frame}
-use Rattle.reading.specs.declared.Frame.TheVariants.{Samples}
+use Rattle.rules.specs.declared.Refusal.{Refusal}
 use Rattle.frames.specs.Writing.{reply_lines_lem, first_lines, totals_line_lem, refusal_line_lem, reply_line_size}
 use Rattle.reading.specs.Frames.{Reading, opening, samples, closing, reading, refused as unread}
-use Rattle.reading.specs.Post.{line_of, flags_after, values_after, ReadPost}
+use Rattle.reading.specs.Post.{Line, line_of, flags_after, values_after, ReadPost}
 use Rattle.frames.specs.Post.{place_behind, buffer_with, WritePost}
 use Rattle.reading.proofs.Sizes.{Sized, reading_sized}
 use Rattle.hexadecimal.proofs.Parts.{over-at-length}
@@ -42,40 +39,31 @@ use Rattle.steps.specs.declared.Step.{Step}
 use Rattle.steps.specs.declared.Step.TheVariants.{Goes, Stops, Full}
 use Rattle.steps.specs.declared.Stepped.{Stepped}
 use Rattle.steps.specs.Outcomes.{Outcome, stops, opened_as, opened_at, fresh_of, taken_as, taken_at, rest_of, closed_as, closed_at, outcome_at, line_at, printed, line_room}
-use Rattle.steps.specs.Post.{stepped_by, has_room_lem, stepped_as, output_as, StepPost, AnswerPost, step_of, TakePrints, TakeShown, ClosePrints, CloseShown, piece_of, frame_at, said_at, number_of, count_in_lem, line_most}
+use Rattle.steps.specs.Post.{stepped_by, has_room_lem, stepped_as, output_as, StepPost, AnswerPost, step_of, TakePrints, TakeShown, ClosePrints, CloseShown, piece_of, said_at, count_in_lem, line_most}
 
 -- ---- answers taken apart
-
-is_refused : Answer → Bool
-is_refused (Ok n) = false
-is_refused (Err k) = true
-
-number_in : Answer → ℕ
-number_in (Ok n) = 0
-number_in (Err k) = k
-
-count_of_answer : Answer → ℕ
-count_of_answer (Ok n) = n
-count_of_answer (Err k) = 0
 
 -- the answer of the operations, with the count n of an accepted call
 answered : RulesAnswer → ℕ → Answer
 answered accepted n = Ok n
 answered (refused k) n = Err k
 
-refused-is : (v : RulesAnswer) (n : ℕ) (x : Answer) (k : ℕ) → x ≡ answered v n → x ≡ Err k → v ≡ refused k
-unfolding answered is_refused number_in
-refused-is accepted n x k e r = absurd (true≢false (ap is_refused (sym r ∙ e)))
-refused-is (refused j) n x k e r = ap (λ (m : ℕ). refused (record { number = m })) (ap number_in (sym e ∙ r))
+ok_not_err : (n : ℕ) (k : Refusal) → ◌≡◌ {A = Answer} (Ok n) (Err k) → ⊥
+ok_not_err n k e = let z : ◌≡◌ {A = ℕ} 0 1 = cc in omega arith
+
+refused-is : (v : RulesAnswer) (n : ℕ) (x : Answer) (k : Refusal) → x ≡ answered v n → x ≡ Err k → v ≡ refused k
+unfolding answered
+refused-is accepted n x k e r = absurd (ok_not_err n k (sym e ∙ r))
+refused-is (refused j) n x k e r = cc
 
 record Accepts (v : RulesAnswer) (n m : ℕ) : Type 0 where
   is-accepted : v ≡ accepted
   count : m ≡ n
 
 accepted-is : (v : RulesAnswer) (n : ℕ) (x : Answer) (m : ℕ) → x ≡ answered v n → x ≡ Ok m → Accepts v n m
-unfolding answered is_refused count_of_answer
-accepted-is accepted n x m e r = record { is-accepted = refl; count = ap count_of_answer (sym r ∙ e) }
-accepted-is (refused j) n x m e r = absurd (true≢false (ap is_refused (sym e ∙ r)))
+unfolding answered
+accepted-is accepted n x m e r = record { is-accepted = refl; count = cc }
+accepted-is (refused j) n x m e r = absurd (ok_not_err m j (sym r ∙ e))
 
 -- ---- lines written where there is room
 
@@ -114,7 +102,7 @@ records-wrote F h h₀ n is count few at b e b' room w =
 -- ---- what happens, by another name
 
 module _ (p : Processor) (at : ℕ) (b : List ℕ) where
-  pub outcome_as : (o o' : Sweep → Outcome) (r : Stepped) (b' : List ℕ) → ((σ : Sweep) → Made σ p → o σ ≡ o' σ) → AnswerPost o' p at b r b' → AnswerPost o p at b r b'
+  outcome_as : (o o' : Sweep → Outcome) (r : Stepped) (b' : List ℕ) → ((σ : Sweep) → Made σ p → o σ ≡ o' σ) → AnswerPost o' p at b r b' → AnswerPost o p at b r b'
   outcome_as o o' r b' e c =
       record {
         inside = c.inside;
@@ -123,7 +111,7 @@ module _ (p : Processor) (at : ℕ) (b : List ℕ) where
       }
 
   -- a refusal gives back the processor that went in
-  stop-same : (q : Processor) (k : ℕ) (r : Stepped) (b' : List ℕ) → ((σ : Sweep) → Made σ p → q ≡ p) → AnswerPost (λ σ. stops k) q at b r b'
+  stop-same : (q : Processor) (k : Refusal) (r : Stepped) (b' : List ℕ) → ((σ : Sweep) → Made σ p → q ≡ p) → AnswerPost (λ σ. stops k) q at b r b'
       → AnswerPost (λ σ. stops k) p at b r b'
   stop-same q k r b' e c =
       record {
@@ -159,7 +147,7 @@ module _ (p : Processor) (at : ℕ) (b : List ℕ) where
     answer-of σ m = ap (λ (x : Answered). x.answer) (take-is σ m) ∙ take-answer σ (take_answer_at σ P bytes)
 
     -- it was refused
-    module _ (k : ℕ) (e : t.answer ≡ Err k) (σ : Sweep) (m : Made σ p) where
+    module _ (k : Refusal) (e : t.answer ≡ Err k) (σ : Sweep) (m : Made σ p) where
       pub turned_down : take_answer_at σ P bytes ≡ refused k
       turned_down = refused-is (take_answer_at σ P bytes) (count_of σ P) t.answer k (answer-of σ m) e
 
@@ -188,11 +176,11 @@ module _ (p : Processor) (at : ℕ) (b : List ℕ) where
   module _ (room : at + line_most ≤ length b) where
     -- ---- a refusal
 
-    pub stop_post : (k e : ℕ) (b' : List ℕ) → WritePost (refusal_line_lem k) at b e b' → AnswerPost (λ σ. stops k) p at b (record { step = Stops k e; processor = p }) b'
+    stop_post : (k : Refusal) (e : ℕ) (b' : List ℕ) → WritePost (refusal_line_lem (number_of k)) at b e b' → AnswerPost (λ σ. stops k) p at b (record { step = Stops k e; processor = p }) b'
     stop_post k e b' w =
-        let d = wrote (refusal_line_lem k) at b e b' (omega arith) w in
+        let d = wrote (refusal_line_lem (number_of k)) at b e b' (omega arith) w in
         record {
-          inside = write_inside (refusal_line_lem k) at b e b' (omega arith) w;
+          inside = write_inside (refusal_line_lem (number_of k)) at b e b' (omega arith) w;
           result = λ σ m. ap (λ (x : ℕ). record { step = Stops k x; processor = p }) d.place;
           output = λ σ m. d.buffer;
         }
@@ -209,7 +197,7 @@ module _ (p : Processor) (at : ℕ) (b : List ℕ) where
       unfolding open_of
       answer-is = ap (λ (x : Answered). x.answer) is ∙ open-answer (open_answer ω)
 
-      pub open-refused : (k : ℕ) → o.answer ≡ Err k → (r : Stepped) (b' : List ℕ) → AnswerPost (λ σ. stops k) p at b r b'
+      pub open-refused : (k : Refusal) → o.answer ≡ Err k → (r : Stepped) (b' : List ℕ) → AnswerPost (λ σ. stops k) p at b r b'
           → AnswerPost (opened_at ω) p at b r b'
       open-refused k e r b' c =
           outcome_as (opened_at ω) (λ σ. stops k) r b'
@@ -237,7 +225,7 @@ module _ (p : Processor) (at : ℕ) (b : List ℕ) where
       fresh_few none = omega arith
       fresh_few (running ω T) = omega (arith, fresh-most standard T P)
 
-      pub take-refused : (k : ℕ) → t.answer ≡ Err k → (r : Stepped) (b' : List ℕ) → AnswerPost (λ σ. stops k) t.processor at b r b'
+      pub take-refused : (k : Refusal) → t.answer ≡ Err k → (r : Stepped) (b' : List ℕ) → AnswerPost (λ σ. stops k) t.processor at b r b'
           → AnswerPost (taken_at P) p at b r b'
       take-refused k e r b' c =
           outcome_as (taken_at P) (λ σ. stops k) r b'
@@ -285,7 +273,7 @@ module _ (p : Processor) (at : ℕ) (b : List ℕ) where
       close-answer σ accepted = refl
       close-answer σ (refused k) = refl
 
-      pub close-refused : (k : ℕ) → t.answer ≡ Err k → (r : Stepped) (b' : List ℕ) → AnswerPost (λ σ. stops k) t.processor at b r b'
+      pub close-refused : (k : Refusal) → t.answer ≡ Err k → (r : Stepped) (b' : List ℕ) → AnswerPost (λ σ. stops k) t.processor at b r b'
           → AnswerPost closed_at p at b r b'
       close-refused k e r b' c =
           outcome_as closed_at (λ σ. stops k) r b' (λ σ m. ap (λ (v : RulesAnswer). closed_as v σ) (is-refused σ m))
@@ -368,39 +356,11 @@ module _ (p : Processor) (at : ℕ) (b : List ℕ) (room : at + line_most ≤ le
           close-refused p at b room h₀ h lent t post k e (record { step = Stops k w.place; processor = t.processor }) b'
           (stop_post t.processor at b room k w.place b' q)
 
--- what was printed for each answer
-pub take-refusal : (a : Answer) (k : ℕ) → a ≡ Err k → (h : List ℕ) (at : ℕ) (b : List ℕ) (e : ℕ) (b' : List ℕ) → WritePost (refusal_line_lem k) at b e b' → TakeShown a h at b (Stops k e) b'
-take-refusal a k q h at b e b' w = subst (λ (x : Answer). TakeShown x h at b (Stops k e) b') (sym q) (record { place = e; step = refl; prints = w })
-
-pub take-replies : (a : Answer) (n : ℕ) → a ≡ Ok n → (h : List ℕ) (at : ℕ) (b : List ℕ) (e : ℕ) (b' : List ℕ) → WritePost (first_lines n h) at b e b' → TakeShown a h at b (Goes e) b'
-take-replies a n q h at b e b' w = subst (λ (x : Answer). TakeShown x h at b (Goes e) b') (sym q) (record { place = e; step = refl; prints = w })
-
-pub close-refusal : (a : Answer) (k : ℕ) → a ≡ Err k → (x : Totals) (h : List ℕ) (at : ℕ) (b : List ℕ) (e : ℕ) (b' : List ℕ) → WritePost (refusal_line_lem k) at b e b'
-    → CloseShown a x h at b (Stops k e) b'
-close-refusal a k q x h at b e b' w = subst (λ (y : Answer). CloseShown y x h at b (Stops k e) b') (sym q) (record { place = e; step = refl; prints = w })
-
-pub close-replies : (a : Answer) (n : ℕ) → a ≡ Ok n → (x : Totals) (h : List ℕ) (at : ℕ) (b : List ℕ) (m : ℕ) (b₁ : List ℕ) (e : ℕ) (b' : List ℕ)
-    → WritePost (first_lines n h) at b m b₁ → WritePost (totals_line_lem x) m b₁ e b' → CloseShown a x h at b (Goes e) b'
-close-replies a n q x h at b m b₁ e b' w v =
-    subst (λ (y : Answer). CloseShown y x h at b (Goes e) b') (sym q) (record { place = e; step = refl; prints = record { middle = m; between = b₁; first = w; then-totals = v } })
-
--- ---- what a line says, taken apart
-
-pub said-refused : (l : Line) (k n : ℕ) → l ≡ Unread k → n ≡ number_of l → (f v : List ℕ) (σ : Sweep) → said_at l f v σ ≡ stops n
-said-refused l k n e q f v σ = ap (λ (x : Line). said_at x f v σ) e ∙ ap stops (sym (q ∙ ap number_of e))
-
-pub said-frame : (l : Line) (x y : Frame) → l ≡ Framed x → x ≡ y → (f v : List ℕ) (σ : Sweep) → said_at l f v σ ≡ frame_at y f v σ
-said-frame l x y e q f v σ = ap (λ (z : Line). said_at z f v σ) e ∙ ap (λ (z : Frame). frame_at z f v σ) q
-
-pub said-count : (l : Line) (x : Frame) (n : ℕ) → l ≡ Framed x → x ≡ Samples n → count_in_lem l ≡ n
-said-count l x n e q = ap count_in_lem (e ∙ ap Framed q)
+-- ---- parts of a list
 
 -- n of the bytes
 pub part_length : (l : List ℕ) (n : ℕ) → n ≤ length l → n ≡ length (take n l)
 part_length l n h = sym (length-take-le n l h)
-
-pub said-short : (l : Line) (x : Frame) (n : ℕ) (f : List ℕ) → l ≡ Framed x → x ≡ Samples n → count_in_lem l ≤ 64 → count_in_lem l ≤ length f → length (take n f) ≤ 64
-said-short l x n f e q a b = omega (arith, said-count l x n e q, length-take-le n f (omega (arith, said-count l x n e q)))
 
 -- ---- a line read
 
@@ -472,7 +432,3 @@ full_post p line at b q =
       result = λ σ m. ap (λ (t : Bool). stepped_as t (line_at σ line) p at) (sym q);
       output = λ σ m. ap (λ (t : Bool). output_as t (line_at σ line) at b) (sym q);
     }
-
--- what is promised of an answer, of one that is equal to it
-pub answer_as : (o : Sweep → Outcome) (p : Processor) (at : ℕ) (b : List ℕ) (x r : Stepped) (b' : List ℕ) → r ≡ x → AnswerPost o p at b x b' → AnswerPost o p at b r b'
-answer_as o p at b x r b' e h = subst (λ (z : Stepped). AnswerPost o p at b z b') (sym e) h

@@ -1,12 +1,12 @@
 -- What a line leaves in the processor and in the output.
 use Rattle.std.specs.Prelude.{ℕ, ◌+◌, ◌*◌, ◌≤◌, ◌<◌, Bool, true, false, List, ◌≡◌, leb, length, take}
-use Rattle.rules.specs.Calls.{most_left}
+use Rattle.rules.specs.Calls.{number_of, most_left}
 use Rattle.rules.specs.Samples.{Trace}
 use Rattle.rules.specs.Buffers.{over-at}
 use Rattle.processor.specs.declared.Processor.{Processor}
 use Rattle.processor.specs.State.{Sweep, processor_of, Made}
-use Rattle.reading.specs.declared.Line.{Line}
-use Rattle.reading.specs.declared.Line.TheVariants.{Frame as Framed, Refused}
+use Rattle.reading.specs.Post.{Line}
+use Rattle.rules.specs.declared.Refusal.{Refusal}
 use Rattle.reading.specs.declared.Frame.{Frame}
 use Rattle.reading.specs.declared.Frame.TheVariants.{Open, Samples, Close}
 use Rattle.frames.specs.Writing.{first_lines, totals_line_lem, refusal_line_lem, reply_line_size, totals_line_size}
@@ -22,10 +22,10 @@ use Rattle.steps.specs.Outcomes.{Outcome, goes, stops, opened_at, taken_at, clos
 
 -- ---- one line
 
--- document 01's answer for each outcome: the place behind what is printed, the number of a refusal, the processor of the sweep
+-- document 01's answer for each outcome: the place behind what is printed, the refusal, the processor of the sweep
 abbrev pub stepped_by : Outcome → Processor → ℕ → Stepped
 stepped_by (goes σ l) p at = record { step = Goes (at + length l); processor = processor_of σ }
-stepped_by (stops k) p at = record { step = Stops k (at + length (refusal_line_lem k)); processor = p }
+stepped_by (stops k) p at = record { step = Stops k (at + length (refusal_line_lem (number_of k))); processor = p }
 
 -- the most that a line prints: the replies and the totals of a close
 abbrev pub line_most : ℕ
@@ -62,6 +62,12 @@ pub record AnswerPost (o : Sweep → Outcome) (p : Processor) (at : ℕ) (b : Li
   pub result : (σ : Sweep) → Made σ p → r ≡ stepped_by (o σ) p at
   pub output : (σ : Sweep) → Made σ p → b' ≡ over-at (printed (o σ)) at b
 
+-- a refusal stops the survey, and its number is written from place at on, up to `place`
+pub record StopPost (k : Refusal) (at : ℕ) (b : List ℕ) (r : Step) (b' : List ℕ) : Type 0 where
+  pub place : ℕ
+  pub step : r ≡ Stops k place
+  pub prints : WritePost (refusal_line_lem (number_of k)) at b place b'
+
 -- the step of an answer whose lines end at place e
 abbrev pub step_of : Answer → ℕ → Step
 step_of (Ok n) e = Goes e
@@ -70,7 +76,7 @@ step_of (Err k) e = Stops k e
 -- for every answer, what is written from place at on, up to place e: the refusal, or the replies
 abbrev pub TakePrints : Answer → List ℕ → ℕ → List ℕ → ℕ → List ℕ → Type 0
 TakePrints (Ok n) h at b e b' = WritePost (first_lines n h) at b e b'
-TakePrints (Err k) h at b e b' = WritePost (refusal_line_lem k) at b e b'
+TakePrints (Err k) h at b e b' = WritePost (refusal_line_lem (number_of k)) at b e b'
 
 pub record TakeShown (a : Answer) (h : List ℕ) (at : ℕ) (b : List ℕ) (r : Step) (b' : List ℕ) : Type 0 where
   pub place : ℕ
@@ -86,7 +92,7 @@ pub record RepliesThenTotals (n : ℕ) (x : Totals) (h : List ℕ) (at : ℕ) (b
 
 abbrev pub ClosePrints : Answer → Totals → List ℕ → ℕ → List ℕ → ℕ → List ℕ → Type 0
 ClosePrints (Ok n) x h at b e b' = RepliesThenTotals n x h at b e b'
-ClosePrints (Err k) x h at b e b' = WritePost (refusal_line_lem k) at b e b'
+ClosePrints (Err k) x h at b e b' = WritePost (refusal_line_lem (number_of k)) at b e b'
 
 pub record CloseShown (a : Answer) (x : Totals) (h : List ℕ) (at : ℕ) (b : List ℕ) (r : Step) (b' : List ℕ) : Type 0 where
   pub place : ℕ
@@ -103,19 +109,15 @@ frame_at (Samples n) f v σ = taken_at (piece_of (take n f) (take n v)) σ
 frame_at Close f v σ = closed_at σ
 
 abbrev pub said_at : Line → List ℕ → List ℕ → Sweep → Outcome
-said_at (Framed x) f v σ = frame_at x f v σ
-said_at (Refused k) f v σ = stops k
-
-abbrev pub number_of : Line → ℕ
-number_of (Framed x) = 0
-number_of (Refused k) = k
+said_at (Ok x) f v σ = frame_at x f v σ
+said_at (Err k) f v σ = stops k
 
 -- how many samples came with it
 abbrev pub count_in_lem : Line → ℕ
-count_in_lem (Framed (Open ω)) = 0
-count_in_lem (Framed (Samples n)) = n
-count_in_lem (Framed Close) = 0
-count_in_lem (Refused k) = 0
+count_in_lem (Ok (Open ω)) = 0
+count_in_lem (Ok (Samples n)) = n
+count_in_lem (Ok Close) = 0
+count_in_lem (Err k) = 0
 
 -- ---- the end of the input
 

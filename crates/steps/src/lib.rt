@@ -1,12 +1,12 @@
 // What is printed of an answer, and whether the survey goes on. `specs/Outcomes.antt` says what each kind of line is to make of it.
 #![tactic(auto)]
 
-ghost use Rattle.steps.specs.Post.{TakeShown, CloseShown, RestPost};
+ghost use Rattle.steps.specs.Post.{StopPost, TakeShown, CloseShown, RestPost};
 
 use calls::Answer;
 use frames::{REPLY_LINE, TOTALS_LINE, has_room, refusal_line, reply_lines, totals_line};
 use processor::Processor;
-use rules::{MOST_LEFT, RECORD, Totals};
+use rules::{MOST_LEFT, RECORD, Refusal, Totals};
 
 // The most that a line prints: the replies of a close and the totals.
 pub const MOST: usize = MOST_LEFT * REPLY_LINE + TOTALS_LINE;
@@ -14,12 +14,11 @@ pub const MOST: usize = MOST_LEFT * REPLY_LINE + TOTALS_LINE;
 // The bytes of the reply buffer for the 64 samples of a line: 4 replies.
 pub const LINE_ROOM: usize = RECORD * 4;
 
-// The survey goes on, or stops with the number of a refusal, and has printed up to a place in the buffer; or the buffer has no room for what a
-// line may print.
+// The survey goes on, or stops with a refusal, and has printed up to a place in the buffer; or the buffer has no room for what a line may print.
 #[derive(Clone, Copy)]
 pub enum Step {
     Goes(usize),
-    Stops(u8, usize),
+    Stops(Refusal, usize),
     Full,
 }
 
@@ -29,19 +28,21 @@ pub struct Stepped {
     pub processor: Processor,
 }
 
+// A refusal stops the survey, and its number is printed.
+pub fn stop(refusal: Refusal, out: &mut [u8], at: usize) -> Step
+    ensures { StopPost refusal at out.old result out.new }
+{
+    let end = refusal_line(u8::from(refusal), out, at);
+    Step::Stops(refusal, end)
+}
+
 // What a take prints: its replies stand in the buffer that it was lent.
 pub fn show_take(answer: Answer, handed: &[u8], out: &mut [u8], at: usize) -> Step
     ensures { TakeShown answer handed.now at out.old result out.new }
 {
     match answer {
-        Err(number) => {
-            let end = refusal_line(number, out, at);
-            Step::Stops(number, end)
-        }
-        Ok(count) => {
-            let end = reply_lines(handed, count, out, at);
-            Step::Goes(end)
-        }
+        Err(refusal) => stop(refusal, out, at),
+        Ok(count) => Step::Goes(reply_lines(handed, count, out, at)),
     }
 }
 
@@ -49,16 +50,9 @@ pub fn show_take(answer: Answer, handed: &[u8], out: &mut [u8], at: usize) -> St
 pub fn show_close(answer: Answer, totals: Totals, handed: &[u8], out: &mut [u8], at: usize) -> Step
     ensures { CloseShown answer totals handed.now at out.old result out.new }
 {
-    match answer {
-        Err(number) => {
-            let end = refusal_line(number, out, at);
-            Step::Stops(number, end)
-        }
-        Ok(count) => {
-            let place = reply_lines(handed, count, out, at);
-            let end = totals_line(totals, out, place);
-            Step::Goes(end)
-        }
+    match show_take(answer, handed, out, at) {
+        Step::Goes(place) => Step::Goes(totals_line(totals, out, place)),
+        stopped => stopped,
     }
 }
 
@@ -69,6 +63,5 @@ pub fn rest_step(out: &mut [u8], at: usize) -> Step
     if !has_room(MOST, out, at) {
         return Step::Full;
     }
-    let end = refusal_line(9, out, at);
-    Step::Stops(9, end)
+    stop(Refusal::Malformed, out, at)
 }

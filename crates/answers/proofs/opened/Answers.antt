@@ -1,13 +1,12 @@
-use Rattle.steps.proofs.Answering.{answer_as, open-refused, open-accepted}
+use Rattle.steps.proofs.Answering.{open-refused, open-accepted}
 use Rattle.answers.proofs.opened.Goals as goal
 
-pub returns-in-Refused : goal.returns-in-Refused
-returns-in-Refused c =
+pub returns-in-Err : goal.returns-in-Err
+returns-in-Err c =
     let a = c.args in
-    open-refused a.p a.at a.out.now c.requires a.opening _ c.open-o.ensures _ c.in-Refused.is _ _ c.stop.ensures
+    open-refused a.p a.at a.out.now c.requires a.opening _ c.open-o.ensures _ c.in-Err.is _ _ c.stopped.ensures
 
-pub returns-in-Accepted : goal.returns-in-Accepted
-returns-in-Accepted c =
+pub returns-in-Ok : goal.returns-in-Ok
+returns-in-Ok c =
     let a = c.args in
-    answer_as _ a.p a.at a.out.now _ _ _ c.with_processor.ensures
-    (open-accepted a.p a.at a.out.now c.requires a.opening _ c.open-o.ensures _ c.in-Accepted.is)
+    open-accepted a.p a.at a.out.now c.requires a.opening _ c.open-o.ensures _ c.in-Ok.is

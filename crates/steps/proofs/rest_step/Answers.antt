@@ -10,4 +10,4 @@ returns-then-not-has_room c =
 pub returns : goal.returns
 returns c =
     let a = c.args in
-    rest-stops a.at a.out.now (sym c.has_room.ensures ∙ c.if-not-has_room.false) _ _ c.refusal_line-end.ensures
+    rest-stops a.at a.out.now (sym c.has_room.ensures ∙ c.if-not-has_room.false) _ _ c.stop.ensures

@@ -12,14 +12,14 @@ returns-then-not-has_room c =
     let a = c.args in
     all_without a.p (piece_of a.flags.now a.values.now) a.from a.to a.at a.out.now (leb-false (a.at + batch_most) (length a.out.now) (sym c.has_room.ensures ∙ c.if-not-has_room.true))
 
-pub returns-in-Refused : goal.returns-in-Refused
-returns-in-Refused c =
+pub returns-in-Err : goal.returns-in-Err
+returns-in-Err c =
     let a = c.args in
     let room = leb-true (a.at + batch_most) (length a.out.now) (sym c.has_room.ensures ∙ c.if-not-has_room.false) in
-    all_with a.p (piece_of a.flags.now a.values.now) a.from a.to a.at a.out.now _ _ room (all-refused a.p (piece_of a.flags.now a.values.now) a.from a.to a.at a.out.now room c.requires _ _ refl c.take-t.result c.take-t.ensures _ c.in-Refused.is)
+    all_with a.p (piece_of a.flags.now a.values.now) a.from a.to a.at a.out.now _ _ room (all-refused a.p (piece_of a.flags.now a.values.now) a.from a.to a.at a.out.now room c.requires _ _ refl c.take-t.result c.take-t.ensures _ c.in-Err.is)
 
-pub returns-in-Accepted : goal.returns-in-Accepted
-returns-in-Accepted c =
+pub returns-in-Ok : goal.returns-in-Ok
+returns-in-Ok c =
     let a = c.args in
     let room = leb-true (a.at + batch_most) (length a.out.now) (sym c.has_room.ensures ∙ c.if-not-has_room.false) in
-    all_with a.p (piece_of a.flags.now a.values.now) a.from a.to a.at a.out.now _ _ room (all-accepted a.p (piece_of a.flags.now a.values.now) a.from a.to a.at a.out.now room c.requires _ _ refl c.take-t.result c.take-t.ensures _ c.in-Accepted.is _ _ c.reply_lines-end.ensures)
+    all_with a.p (piece_of a.flags.now a.values.now) a.from a.to a.at a.out.now _ _ room (all-accepted a.p (piece_of a.flags.now a.values.now) a.from a.to a.at a.out.now room c.requires _ _ refl c.take-t.result c.take-t.ensures _ c.in-Ok.is _ _ c.reply_lines-end.ensures)
