@@ -1,11 +1,11 @@
 -- Digits, one by one and in pairs.
-use Prim.Native.Nat.{ℕ, zero, suc, ◌+◌, ◌-◌, ◌*◌, ◌/◌, ◌%◌, ◌≤◌, ◌<◌}
+use Prim.Native.Nat.{ℕ, ◌+◌, ◌-◌, ◌*◌, ◌/◌, ◌%◌, ◌≤◌, ◌<◌}
 use native.Mathlib.Omega.{arith}
-use mathlib.Core.Path.{◌≡◌, refl, sym, ap, ap₂, ◌∙◌}
+use mathlib.Core.Path.{◌≡◌, refl, sym, ap, ◌∙◌}
 use mathlib.Core.Bool.{Bool, true, false, cond, ◌&&◌, ◌||◌}
 use mathlib.Core.List.{List, [], ◌∷◌}
 use lib.Dec.{leb}
-use lib.ListN.{length, get_or, take}
+use Rattle.std.specs.List.{fold}
 use borrow.Author.Tests.{leb-true, lt-ltb, le-ltb}
 use Rattle.rules.proofs.Truth.{and_left, and_right}
 use Rattle.characters.specs.Characters.{digit, is_digit_lem, are_digits_lem}
@@ -60,37 +60,9 @@ digit_by_bits c d = go (low c) (high c) refl refl
 
 -- ---- many
 
--- the bytes up to place i are looked at
-pub record Seen (l : List ℕ) (n i : ℕ) (all : Bool) : Type 0 where
-  pub most : i ≤ n
-  pub so_far : all ≡ are_digits_lem (take i l)
-
-pub seen_none : (l : List ℕ) (n : ℕ) → Seen l n 0 true
-seen_none l n = record { most = omega arith; so_far = refl }
-
-with_true : (x : Bool) → (x && true) ≡ x
-with_true true = refl
-with_true false = refl
-
-both-and : (x y z : Bool) → (x && (y && z)) ≡ ((x && y) && z)
-both-and true y z = refl
-both-and false y z = refl
-
-one_more : (l : List ℕ) (i : ℕ) → i < length l → are_digits_lem (take (suc i) l) ≡ (are_digits_lem (take i l) && is_digit_lem (get_or l i 0))
-one_more [] i h = absurd (omega arith)
-one_more (c ∷ l) zero h = with_true (is_digit_lem c)
-one_more (c ∷ l) (suc i) h =
-    ap (λ b. is_digit_lem c && b) (one_more l i (omega arith)) ∙ both-and (is_digit_lem c) (are_digits_lem (take i l)) (is_digit_lem (get_or l i 0))
-
-pub seen_next : (l : List ℕ) (n i : ℕ) (all r : Bool) → i < n → n ≤ length l → r ≡ is_digit_lem (get_or l i 0) → Seen l n i all → Seen l n (i + 1) (all && r)
-seen_next l n i all r h m e s =
-    record {
-      most = omega arith;
-      so_far =
-          ap₂ (λ (x y : Bool). x && y) s.so_far e
-          ∙ sym (one_more l i (omega arith))
-          ∙ ap (λ (k : ℕ). are_digits_lem (take k l)) {x = suc i} {y = i + 1} (omega arith);
-    }
-
-pub seen_all : (l : List ℕ) (n i : ℕ) (all : Bool) → n ≤ i → Seen l n i all → all ≡ are_digits_lem (take n l)
-seen_all l n i all h s = s.so_far ∙ ap (λ (k : ℕ). are_digits_lem (take k l)) {x = i} {y = n} (omega (arith, h, s.most))
+-- the tests of all bytes, and-ed one after the other
+pub all_folded : (b : Bool) (l : List ℕ) → fold (λ all c. all && is_digit_lem c) b l ≡ (b && are_digits_lem l)
+all_folded true [] = refl
+all_folded false [] = refl
+all_folded true (c ∷ l) = all_folded (is_digit_lem c) l
+all_folded false (c ∷ l) = all_folded false l

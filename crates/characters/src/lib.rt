@@ -16,13 +16,7 @@ pub fn are_digits(line: &[u8], n: usize) -> bool
     requires { n ≤ length line.now }
     ensures { result ≡ are_digits_lem (take n line.now) }
 {
-    let mut all = true;
-    let mut i: usize = 0;
-    while i < n {
-        all = all & is_digit(line[i]);
-        i += 1;
-    }
-    all
+    line[..n].iter().fold(true, |all, c| all & is_digit(*c))
 }
 
 // The value of a digit.

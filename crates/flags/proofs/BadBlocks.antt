@@ -7,7 +7,7 @@ use mathlib.Core.Path.{◌≡◌, refl, sym, ap, ap₂, ◌∙◌}
 use mathlib.Core.Bool.{Bool, true, false, not, ◌&&◌, ◌||◌}
 use mathlib.Core.List.{List}
 use lib.Dec.{ltb, leb, eqb}
-use lib.ListN.{length, get_or, drop}
+use lib.ListN.{length, get_or, drop, drop_of_length-le}
 use lib.Bits.{bit_and, bit_or, or_lt, and_le_r}
 use borrow.Author.Tests.{eqb-true, eq-eqb, leb-true, le-leb, ltb-false, le-ltb}
 use Rattle.rules.specs.Lists.{any}
@@ -15,8 +15,8 @@ use Rattle.rules.specs.Samples.{bad, odd}
 use Rattle.rules.proofs.Truth.{or_left, or_right, impossible}
 use Rattle.plane.specs.Words.{bit}
 use Rattle.packing.specs.Packing.{bytes, Eight}
-use Rattle.flags.specs.Flags.{some, Gathered, Paired, BadFrom, BadBlock}
-use Rattle.plane.proofs.Cases.{and_false, up_to, below, is_true, never}
+use Rattle.flags.specs.Flags.{some, Gathered, Paired}
+use Rattle.plane.proofs.Cases.{and_false, or_false, up_to, below, is_true, never}
 use Rattle.plane.proofs.BitLaws.{bit-and, bit-or, bit-shr, bit-above, zero_bit}
 use Rattle.plane.proofs.LowestBit.{no_bits}
 use Rattle.flags.proofs.BadBytes.{rest}
@@ -126,12 +126,11 @@ module _ (f : List ℕ) (o bits pairs : ℕ) (within : o + 64 ≤ length f) (bou
       ∙ some-none (λ j. bytes f (o + 8 * j) i) 8 (sym (g.at i (omega arith)) ∙ e) (m / 8) (omega arith)
 
   -- no bit at all
-  pub none-bad : bits ≡ 0 → BadBlock f o false
-  none-bad e = record {
-    is = any_split f o 64 within
-        ∙ ap (λ (b : Bool). b || any bad (drop (o + 64) f)) (none-some (λ m. bad (get_or f (o + m) 0)) 64 (λ m h.
-        good (get_or f (o + m) 0) (bound (o + m)) (λ k _ l. clear m k h l) (ap (λ (b : Bool). b && bit (get_or f (o + m) 0) 2) (clear m 1 h (omega arith)))));
-  }
+  pub none-bad : bits ≡ 0 → any bad (drop o f) ≡ any bad (drop (o + 64) f)
+  none-bad e =
+      any_split f o 64 within
+      ∙ ap (λ (b : Bool). b || any bad (drop (o + 64) f)) (none-some (λ m. bad (get_or f (o + m) 0)) 64 (λ m h.
+      good (get_or f (o + m) 0) (bound (o + m)) (λ k _ l. clear m k h l) (ap (λ (b : Bool). b && bit (get_or f (o + m) 0) 2) (clear m 1 h (omega arith)))))
     where
       clear : (m k : ℕ) → m < 64 → k < 8 → bit (get_or f (o + m) 0) k ≡ false
       clear m k h l = bits_of m k h l (ap (λ (y : ℕ). bit y (8 * (m % 8) + k)) e ∙ zero_bit (8 * (m % 8) + k))
@@ -199,25 +198,13 @@ module _ (f : List ℕ) (o bits pairs : ℕ) (within : o + 64 ≤ length f) (bou
         is_true (some (λ m. bad (get_or f (o + m) 0)) 64)
         (λ s. impossible (sym (eq-eqb w 0 (left-none (some-none (λ m. bad (get_or f (o + m) 0)) 64 s))) ∙ e))
 
-    pub block_bad : BadBlock f o (not (eqb (bit_or (bit_and bits 0xf0f0f0f0f0f0f0f0) (bit_and pairs 0x0202020202020202)) 0))
+    pub block_bad : any bad (drop o f) ≡ not (eqb (bit_or (bit_and bits 0xf0f0f0f0f0f0f0f0) (bit_and pairs 0x0202020202020202)) 0) || any bad (drop (o + 64) f)
     unfolding w high slope
-    block_bad = record { is = any_split f o 64 within ∙ ap (λ (b : Bool). b || any bad (drop (o + 64) f)) (decides (eqb w 0) refl) }
+    block_bad = any_split f o 64 within ∙ ap (λ (b : Bool). b || any bad (drop (o + 64) f)) (decides (eqb w 0) refl)
 
--- ---- block by block
+-- ---- a block by itself
 
--- the bytes before i are good
-pub record Passed (f : List ℕ) (i : ℕ) : Type 0 where
-  pub within : i ≤ length f
-  pub so_far : any bad (drop i f) ≡ any bad f
-
-pub pass-first : (f : List ℕ) → Passed f 0
-pass-first f = record { within = omega arith; so_far = refl }
-
-pub pass-next : (f : List ℕ) (i : ℕ) {r : Bool} → i + 64 ≤ length f → BadBlock f i r → r ≡ false → Passed f i → Passed f (i + 64)
-pass-next f i {r} h b e p = record { within = h; so_far = ap (λ (c : Bool). c || any bad (drop (i + 64) f)) (sym e) ∙ sym b.is ∙ p.so_far }
-
-pub pass-found : (f : List ℕ) (i : ℕ) {r : Bool} → BadBlock f i r → r ≡ true → Passed f i → true ≡ any bad f
-pass-found f i {r} b e p = ap (λ (c : Bool). c || any bad (drop (i + 64) f)) (sym e) ∙ sym b.is ∙ p.so_far
-
-pub pass-last : (f : List ℕ) (i : ℕ) {r : Bool} → BadFrom f i r → Passed f i → r ≡ any bad f
-pass-last f i b p = b.is ∙ p.so_far
+pub block_only : (f : List ℕ) (r : Bool) → length f ≡ 64 → any bad f ≡ r || any bad (drop 64 f) → r ≡ any bad f
+block_only f r h e =
+    let l : length f ≤ 64 = omega arith in
+    sym (or_false r) ∙ ap (λ (k : List ℕ). r || any bad k) (sym (drop_of_length-le f l)) ∙ sym e

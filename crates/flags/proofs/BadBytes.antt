@@ -13,7 +13,6 @@ use borrow.Author.Tests.{ltb-true, ltb-false, lt-ltb, le-ltb}
 use Rattle.rules.specs.Lists.{any}
 use Rattle.rules.specs.Samples.{bad, odd}
 use Rattle.plane.specs.Words.{bit}
-use Rattle.flags.specs.Flags.{BadFrom}
 use Rattle.plane.proofs.Cases.{or_false}
 use Rattle.plane.proofs.BitLaws.{bit-and, bit-or, bit-shr}
 
@@ -46,23 +45,21 @@ regroup false false true false r = refl
 regroup false false false true r = refl
 regroup false false false false r = refl
 
--- of the bytes from o on, those before i are seen, the others are still to come
-pub record Seen (f : List ℕ) (o bits pairs i : ℕ) : Type 0 where
-  pub within : i ≤ length f
-  pub so_far : seen bits pairs || any bad (drop i f) ≡ any bad (drop o f)
+-- the bytes before i are seen, the others are still to come
+pub record Seen (f : List ℕ) (bits pairs i : ℕ) : Type 0 where
+  pub so_far : seen bits pairs || any bad (drop i f) ≡ any bad f
 
-pub seen_first : (f : List ℕ) (o : ℕ) → o ≤ length f → Seen f o 0 0 o
-seen_first f o h = record { within = h; so_far = refl }
+pub seen_first : (f : List ℕ) → Seen f 0 0 0
+seen_first f = record { so_far = refl }
 
 pub rest : (f : List ℕ) (i : ℕ) → i < length f → drop i f ≡ get_or f i 0 ∷ drop (i + 1) f
 rest f i h = rw (add-one, drop-cons f i 0)
 
-pub seen_next : (f : List ℕ) (o bits pairs i : ℕ) → i < length f → Seen f o bits pairs i
-    → Seen f o (bit_or bits (get_or f i 0)) (bit_or pairs (bit_and (get_or f i 0) (get_or f i 0 / 2 ^ 1))) (i + 1)
-seen_next f o bits pairs i h s =
+pub seen_next : (f : List ℕ) (bits pairs i : ℕ) → i < length f → Seen f bits pairs i
+    → Seen f (bit_or bits (get_or f i 0)) (bit_or pairs (bit_and (get_or f i 0) (get_or f i 0 / 2 ^ 1))) (i + 1)
+seen_next f bits pairs i h s =
     let x = get_or f i 0 in
     record {
-      within = omega arith;
       so_far =
           ap₂ (λ (l p : Bool). (l || p) || any bad (drop (i + 1) f)) (or_large bits x (ltb 15 bits) (ltb 15 x) refl refl) (or-pair pairs x)
           ∙ sym (regroup (ltb 15 bits) (odd (pairs / 2)) (odd (x / 2) && odd (x / 4)) (ltb 15 x) (any bad (drop (i + 1) f)))
@@ -70,7 +67,5 @@ seen_next f o bits pairs i h s =
           ∙ s.so_far;
     }
 
-pub all_seen : (f : List ℕ) (o bits pairs i : ℕ) → length f ≤ i → Seen f o bits pairs i → BadFrom f o (seen bits pairs)
-all_seen f o bits pairs i h s = record {
-  is = sym (or_false (seen bits pairs)) ∙ ap (λ (l : List ℕ). seen bits pairs || any bad l) (sym (drop_of_length-le f h)) ∙ s.so_far;
-}
+pub all_seen : (f : List ℕ) (bits pairs i : ℕ) → length f ≤ i → Seen f bits pairs i → seen bits pairs ≡ any bad f
+all_seen f bits pairs i h s = sym (or_false (seen bits pairs)) ∙ ap (λ (l : List ℕ). seen bits pairs || any bad l) (sym (drop_of_length-le f h)) ∙ s.so_far

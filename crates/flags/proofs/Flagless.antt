@@ -1,5 +1,5 @@
 -- Eight words of eight bytes each, or-ed, four and four: the result is 0 exactly if no byte of the 64 has a bit. Flagless blocks and flagless bytes in a row are flagless.
-use Prim.Native.Nat.{ℕ, zero, suc, ◌+◌, ◌-◌, ◌*◌, ◌/◌, ◌%◌, ◌≤◌, ◌<◌}
+use Prim.Native.Nat.{ℕ, zero, suc, ◌+◌, ◌*◌, ◌/◌, ◌%◌, ◌≤◌, ◌<◌}
 use native.Mathlib.Omega.{arith}
 use native.Mathlib.Nat.{add-zero}
 use mathlib.Core.Path.{◌≡◌, refl, sym, ap, ap₂, ◌∙◌, subst}
@@ -10,7 +10,7 @@ use lib.Dec.{eqb}
 use lib.ListN.{length, get_or}
 use lib.Bits.{bit_or, or_lt}
 use borrow.Author.Tests.{eqb-true, eq-eqb}
-use Rattle.rules.proofs.Truth.{or_left, or_right, and_left, and_right, impossible}
+use Rattle.rules.proofs.Truth.{or_left, or_right, and_left, and_right}
 use Rattle.plane.specs.Words.{bit}
 use Rattle.packing.specs.Packing.{bytes, Eight}
 use Rattle.flags.specs.Flags.{some, Gathered, FlaglessBlock, no_flags}
@@ -115,28 +115,6 @@ no_byte b h f = no_bits b (omega arith) (λ i l. all_bits b 0 h (λ k _ g. f k g
 
 -- ---- no bit in any byte
 
--- the bytes before i are 0
-pub record Clear (f : List ℕ) (i : ℕ) : Type 0 where
-  pub within : i ≤ length f
-  pub none : (m : ℕ) → m < i → get_or f m 0 ≡ 0
-
-pub clear_first : (f : List ℕ) → Clear f 0
-clear_first f = record { within = omega arith; none = λ m h. absurd (omega arith) }
-
-pub clear_block : (f : List ℕ) (i : ℕ) {r : Bool} → ((k : ℕ) → get_or f k 0 < 256) → i + 64 ≤ length f → FlaglessBlock f i r → r ≡ true → Clear f i → Clear f (i + 64)
-clear_block f i bound h b e c = record {
-  within = h;
-  none = λ m l. ⊎_elim (λ (g : i ≤ m). let z : i + (m - i) ≡ m = omega arith in
-      subst (λ (k : ℕ). get_or f k 0 ≡ 0) z (no_byte (get_or f (i + (m - i)) 0) (bound (i + (m - i))) (λ k q. b.yes e (m - i) k (omega arith) q)))
-      (λ (g : m < i). c.none m g) (le_or_lt i m);
-}
-
-pub clear_byte : (f : List ℕ) (i : ℕ) → i < length f → get_or f i 0 ≡ 0 → Clear f i → Clear f (i + 1)
-clear_byte f i h e c = record {
-  within = omega arith;
-  none = λ m l. ⊎_elim (λ (g : i ≤ m). let z : i ≡ m = omega arith in subst (λ (k : ℕ). get_or f k 0 ≡ 0) z e) (λ (g : m < i). c.none m g) (le_or_lt i m);
-}
-
 -- what a piece without flags says of each byte, and the other way round
 pub no-flag-at : (f : List ℕ) → no_flags f ≡ true → (m : ℕ) → get_or f m 0 ≡ 0
 no-flag-at [] e m = refl
@@ -147,20 +125,19 @@ no-flag-all : (f : List ℕ) → ((m : ℕ) → m < length f → get_or f m 0 �
 no-flag-all [] h = refl
 no-flag-all (x ∷ f) h = ap₂ ◌&&◌ (eq-eqb x 0 (h 0 (omega arith))) (no-flag-all f (λ m l. h (suc m) (omega arith)))
 
-pub clear-last : (f : List ℕ) (i : ℕ) → length f ≤ i → Clear f i → true ≡ no_flags f
-clear-last f i h c = sym (no-flag-all f (λ m l. c.none m (omega arith)))
-
--- a byte that is not 0, or a block that has one
-pub byte_flagged : (f : List ℕ) (i : ℕ) → (get_or f i 0 ≡ 0 → ⊥) → false ≡ no_flags f
-byte_flagged f i h = go (no_flags f) refl
+-- a block by itself
+pub block_only : (f : List ℕ) (r : Bool) → length f ≡ 64 → ((k : ℕ) → get_or f k 0 < 256) → FlaglessBlock f 0 r → r ≡ no_flags f
+block_only f r size bound b = go r refl
   where
-    go : (r : Bool) → no_flags f ≡ r → false ≡ r
-    go true e = absurd (h (no-flag-at f e i))
-    go false e = refl
+    zero_at : r ≡ true → (m : ℕ) → m < length f → get_or f m 0 ≡ 0
+    zero_at e m h =
+        let z : 0 + m ≡ m = omega arith in
+        subst (λ (k : ℕ). get_or f k 0 ≡ 0) z (no_byte (get_or f (0 + m) 0) (bound (0 + m)) (λ k l. b.yes e m k (omega arith) l))
 
-pub block_flagged : (f : List ℕ) (o : ℕ) {r : Bool} → FlaglessBlock f o r → r ≡ false → false ≡ no_flags f
-block_flagged f o {r} b h = go (no_flags f) refl
-  where
-    go : (n : Bool) → no_flags f ≡ n → false ≡ n
-    go true e = absurd (impossible (sym (b.no (λ m k l q. ap (λ (x : ℕ). bit x k) (no-flag-at f e (o + m)) ∙ zero_bit k)) ∙ h))
-    go false e = refl
+    go : (s : Bool) → r ≡ s → r ≡ no_flags f
+    go true e = e ∙ sym (no-flag-all f (zero_at e))
+    go false e = flagged (no_flags f) refl
+      where
+        flagged : (n : Bool) → no_flags f ≡ n → r ≡ n
+        flagged true q = b.no (λ m k l h. ap (λ (x : ℕ). bit x k) (no-flag-at f q (0 + m)) ∙ zero_bit k)
+        flagged false q = e

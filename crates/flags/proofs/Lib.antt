@@ -1,3 +1,4 @@
 pub mod BadBytes
 pub mod Flagless
 pub mod BadBlocks
+pub mod Blocks

@@ -1,13 +1,7 @@
 -- Tests of many flag bytes.
-use Rattle.std.specs.Prelude.{ℕ, zero, suc, ◌+◌, ◌*◌, ◌^◌, ◌<◌, ◌≡◌, Bool, true, false, ◌&&◌, ◌||◌, List, [], ◌∷◌, eqb, get_or, drop}
-use Rattle.rules.specs.Lists.{any}
-use Rattle.rules.specs.Samples.{bad}
+use Rattle.std.specs.Prelude.{ℕ, zero, suc, ◌+◌, ◌*◌, ◌^◌, ◌<◌, ◌≡◌, Bool, true, false, ◌&&◌, ◌||◌, List, [], ◌∷◌, eqb, get_or}
 use Rattle.plane.specs.Words.{bit}
 use Rattle.packing.specs.Packing.{bytes}
-
--- r is true exactly if a flag byte from o on is bad
-pub record BadFrom (f : List ℕ) (o : ℕ) (r : Bool) : Type 0 where
-  pub is : r ≡ any bad (drop o f)
 
 -- g holds of one of 0 to n-1
 unfoldable pub some : (ℕ → Bool) → ℕ → Bool
@@ -22,10 +16,6 @@ pub record Gathered (f : List ℕ) (o n x : ℕ) : Type 0 where
 -- y is the or of the first n words, each with itself shifted right by one
 pub record Paired (f : List ℕ) (o n y : ℕ) : Type 0 where
   pub at : (i : ℕ) → i < 63 → bit y i ≡ some (λ j. bytes f (o + 8 * j) i && bytes f (o + 8 * j) (1 + i)) n
-
--- a flag byte from o on is bad if r is true, or if one behind the 64 from o on is
-pub record BadBlock (f : List ℕ) (o : ℕ) (r : Bool) : Type 0 where
-  pub is : any bad (drop o f) ≡ r || any bad (drop (o + 64) f)
 
 -- r is true exactly if none of the 64 flag bytes from o on has a bit
 pub record FlaglessBlock (f : List ℕ) (o : ℕ) (r : Bool) : Type 0 where

@@ -5,7 +5,7 @@ ghost use Rattle.std.specs.Prelude.{◌+◌, ◌/◌, ◌≤◌, ◌≡◌, leng
 ghost use Rattle.std.specs.Int.Bits.{bit_and};
 ghost use Rattle.rules.specs.Lists.{any};
 ghost use Rattle.rules.specs.Samples.{bad};
-ghost use Rattle.flags.specs.Flags.{BadFrom, Gathered, Paired, BadBlock, FlaglessBlock, no_flags};
+ghost use Rattle.flags.specs.Flags.{Gathered, Paired, FlaglessBlock, no_flags};
 
 use packing::eight;
 
@@ -13,27 +13,19 @@ use packing::eight;
 pub fn has_bad(flags: &[u8]) -> bool
     ensures { result ≡ any bad flags.now }
 {
-    let n = flags.len();
-    let mut i = 0usize;
-    while 64 <= n - i {
-        if bad_block(flags, i) {
-            return true;
-        }
-        i += 64;
-    }
-    bad_from(flags, i)
+    let (blocks, rest) = flags.as_chunks::<64>();
+    blocks.iter().any(|block| bad_block(block)) || bad_byte(rest)
 }
 
-// Whether one of the 64 flag bytes from o on is bad. The bits of all bytes, and the P with N of each, are gathered and tested once.
-fn bad_block(flags: &[u8], o: usize) -> bool
-    requires { o + 64 ≤ length flags.now }
-    ensures { BadBlock flags.now o result }
+// Whether one of 64 flag bytes is bad. The bits of all bytes, and the P with N of each, are gathered and tested once.
+fn bad_block(flags: &[u8; 64]) -> bool
+    ensures { result ≡ any bad flags.now }
 {
-    let bits = or_bits(flags, o) | or_bits(flags, o + 32);
+    let bits = or_bits(flags, 0) | or_bits(flags, 32);
     if bits == 0 {
         return false;
     }
-    let pairs = or_pairs(flags, o) | or_pairs(flags, o + 32);
+    let pairs = or_pairs(flags, 0) | or_pairs(flags, 32);
     ((bits & 0xf0f0_f0f0_f0f0_f0f0) | (pairs & 0x0202_0202_0202_0202)) != 0
 }
 
@@ -63,20 +55,15 @@ fn pair(x: u64) -> u64
     x & (x >> 1)
 }
 
-// Whether a flag byte from o on is bad.
-fn bad_from(flags: &[u8], o: usize) -> bool
-    requires { o ≤ length flags.now }
-    ensures { BadFrom flags.now o result }
+// Whether one of some flag bytes is bad, by the or of all, byte by byte.
+fn bad_byte(flags: &[u8]) -> bool
+    ensures { result ≡ any bad flags.now }
 {
     let mut bits = 0u8;
     let mut pairs = 0u8;
-    let n = flags.len();
-    let mut i = o;
-    while i < n {
-        let x = flags[i];
-        bits = bits | x;
-        pairs = pairs | (x & (x >> 1));
-        i += 1;
+    for x in flags {
+        bits = bits | *x;
+        pairs = pairs | (*x & (*x >> 1));
     }
     (15 < bits) | (pairs / 2 % 2 == 1)
 }
@@ -85,21 +72,15 @@ fn bad_from(flags: &[u8], o: usize) -> bool
 pub fn has_no_flag(flags: &[u8]) -> bool
     ensures { result ≡ no_flags flags.now }
 {
-    let n = flags.len();
-    let mut i = 0usize;
-    while 64 <= n - i {
-        if !flagless_block(flags, i) {
-            return false;
-        }
-        i += 64;
-    }
-    while i < n {
-        if flags[i] != 0 {
-            return false;
-        }
-        i += 1;
-    }
-    true
+    let (blocks, rest) = flags.as_chunks::<64>();
+    blocks.iter().all(|block| is_flagless(block)) && rest.iter().all(|x| *x == 0)
+}
+
+// Whether none of 64 flag bytes has a bit.
+fn is_flagless(flags: &[u8; 64]) -> bool
+    ensures { result ≡ no_flags flags.now }
+{
+    flagless_block(flags, 0)
 }
 
 // Whether none of the 64 flag bytes from o on has a bit.

@@ -32,17 +32,6 @@ unfoldable pub value_of : List ℕ → ℕ → List ℕ → ℕ → ℕ
 value_of recent base values t =
     cond (leb base t) (get_or values (t - base) 0) (cond (leb base (t + 256)) (get_or recent (t + 256 - base) 0) 0)
 
--- 256 values, n places on, as far as there are values
-pub record Older (recent : List ℕ) (n : ℕ) (r : List ℕ) : Type 0 where
-  pub size : length r ≡ length recent
-  pub at : length recent ≡ 256 → (i : ℕ) → i + n < 256 → get_or r i 0 ≡ get_or recent (i + n) 0
-
--- the last values, at the end of 256
-pub record Newer (older values r : List ℕ) : Type 0 where
-  pub size : length r ≡ length older
-  pub old : (i : ℕ) → i + length values < 256 → get_or r i 0 ≡ get_or older i 0
-  pub new : length older ≡ 256 → (i : ℕ) → i < 256 → 256 ≤ i + length values → get_or r i 0 ≡ get_or values (i + length values - 256) 0
-
 -- the values of the last 256 ticks once the piece is taken
 pub record KeepPost (recent : List ℕ) (values : List ℕ) (recent' : List ℕ) : Type 0 where
   pub result : (old : List ℕ) → recent ≡ recent_of old → recent' ≡ recent_of (old ++ values)

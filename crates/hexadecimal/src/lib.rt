@@ -30,11 +30,8 @@ fn put_bytes(body: &[u8], out: &mut [u8], at: usize)
     requires { at + 2 * length body.now ≤ length out.old }
     ensures { out.new ≡ over-at (hexadecimal body.now) at out.old }
 {
-    let n = body.len();
-    let mut i: usize = 0;
-    while i < n {
-        put_byte(body[i], out, at + 2 * i);
-        i += 1;
+    for (i, x) in body.iter().enumerate() {
+        put_byte(*x, out, at + 2 * i);
     }
 }
 

@@ -1,14 +1,15 @@
 -- Planes of fewer than 64 ticks: those of a block of 64 bytes, of which the first are the ticks' flags and the others are 0.
-use Prim.Native.Nat.{ℕ, ◌+◌, ◌/◌, ◌≤◌, ◌<◌}
+use Prim.Native.Nat.{ℕ, ◌+◌, ◌-◌, ◌/◌, ◌≤◌, ◌<◌}
 use native.Mathlib.Omega.{arith}
 use mathlib.Core.Path.{◌≡◌, refl, sym, ap, ◌∙◌}
-use mathlib.Core.Logic.{◌⊎◌, inl, inr, ⊎_elim}
+use mathlib.Core.Logic.{⊎_elim}
 use mathlib.Core.Bool.{Bool, false}
-use mathlib.Core.List.{List}
-use lib.ListN.{length, get_or, set, replicate, length-set, length-replicate, get_or-replicate}
-use lib.Seq.{get_or-set_same, get_or-set_other}
+use mathlib.Core.List.{List, ◌++◌}
+use lib.ListN.{length, get_or, drop, replicate, length-replicate, get_or-replicate}
 use Rattle.rules.specs.Samples.{A, P, N, M, odd}
-use Rattle.rules.proofs.Truth.{same_or}
+use Rattle.std.specs.List.{slice_range}
+use Rattle.std.proofs.lemmas.Grind.{common_steps, elements}
+use Rattle.std.proofs.lemmas.List.{get_or-append_right, get_or-drop}
 use Rattle.packing.specs.declared.Planes.{Planes}
 use Rattle.plane.specs.Words.{Holds, HoldsPart}
 use Rattle.packing.specs.Packing.{Packed, PackedPart}
@@ -21,24 +22,22 @@ pub record Copied (f : List ℕ) (o : ℕ) (block : List ℕ) (i : ℕ) : Type 0
   pub at : (k : ℕ) → k < i → get_or block k 0 ≡ get_or f (o + k) 0
   pub rest : (k : ℕ) → i ≤ k → k < 64 → get_or block k 0 ≡ 0
 
-pub none_copied : (f : List ℕ) (o : ℕ) → Copied f o (replicate 64 0) 0
-none_copied f o = record { size = length-replicate {A = ℕ} 64 0; at = λ k l. absurd (omega arith); rest = λ k l h. get_or-replicate {A = ℕ} 64 k 0 0 h }
+-- the r bytes of f from o on, before as many of 64 zeros as are left
+module _ (f : List ℕ) (o r : ℕ) (part : List ℕ) (room : o + r ≤ length f) (few : r ≤ 64) (is : part ≡ slice_range f o (o + r)) where
+  part-length : length part ≡ r
+  part-length = grind (arith, common_steps)
 
-pub one_copied : (f : List ℕ) (o : ℕ) (block : List ℕ) (i : ℕ) → i < 64 → Copied f o block i → Copied f o (set block i (get_or f (o + i) 0)) (i + 1)
-one_copied f o block i h c =
-    record {
-      size = length-set block i x ∙ c.size;
-      at = λ k l. go k l (same_or k i);
-      rest = λ k l m. get_or-set_other block i k x 0 (λ e. omega arith) ∙ c.rest k (omega arith) m;
-    }
-  where
-    x : ℕ
-    x = get_or f (o + i) 0
+  zero_behind : (k : ℕ) → r ≤ k → k < 64 → get_or (part ++ drop r (replicate 64 0)) k 0 ≡ 0
+  zero_behind k h l =
+      get_or-append_right part (drop r (replicate 64 0)) r k 0 part-length h ∙ get_or-drop r (replicate 64 0) (k - r) 0
+      ∙ get_or-replicate {A = ℕ} 64 (r + (k - r)) 0 0 (omega arith)
 
-    go : (k : ℕ) → k < i + 1 → (k ≡ i) ⊎ (k ≡ i → ⊥) → get_or (set block i x) k 0 ≡ get_or f (o + k) 0
-    go k l (inl e) =
-        ap (λ (j : ℕ). get_or (set block i x) j 0) e ∙ get_or-set_same block i x 0 (omega (arith, c.size)) ∙ ap (λ (j : ℕ). get_or f (o + j) 0) (sym e)
-    go k l (inr d) = get_or-set_other block i k x 0 d ∙ c.at k (omega arith)
+  pub copied_part : Copied f o (part ++ drop r (replicate 64 0)) r
+  copied_part = record {
+    size = grind (arith, common_steps, part-length, length-replicate {A = ℕ} 64 0);
+    at = λ k h. grind (arith, common_steps, elements, part-length);
+    rest = zero_behind;
+  }
 
 -- a plane, whose fact of a tick is g of the tick's byte, and no fact of a byte that is 0
 module _ (f : List ℕ) (o : ℕ) (block : List ℕ) (r : ℕ) (c : Copied f o block r) (F G : ℕ → Bool) (g : ℕ → Bool) (none : g 0 ≡ false)

@@ -134,10 +134,6 @@ pub fn pack_part(flags: &[u8], o: usize, r: usize) -> Planes
     ensures { PackedPart flags.now o r result }
 {
     let mut block = [0u8; 64];
-    let mut i = 0usize;
-    while i < r {
-        block[i] = flags[o + i];
-        i += 1;
-    }
+    block[..r].copy_from_slice(&flags[o..o + r]);
     pack(&block, 0)
 }

@@ -1,10 +1,11 @@
 -- Samples of a line land at the start of two buffers, one pair after the other.
-use Prim.Native.Nat.{ℕ, zero, suc, ◌+◌, ◌*◌, ◌/◌, ◌%◌, ◌≤◌, ◌<◌}
+use Prim.Native.Nat.{ℕ, zero, suc, ◌+◌, ◌-◌, ◌*◌, ◌/◌, ◌%◌, ◌≤◌, ◌<◌}
 use native.Mathlib.Omega.{arith}
 use mathlib.Core.Path.{◌≡◌, refl, sym, ap, ap₂, ◌∙◌}
 use mathlib.Core.List.{List, [], ◌∷◌}
 use lib.ListN.{length, get_or, take, drop, set, length-drop, get_or-append}
-use lib.Seq.{length-take-le, get_or-take, get_or-drop}
+use lib.Seq.{length-take-le, get_or-take, get_or-drop, drop-drop}
+use Rattle.std.specs.Simd.{first_chunks}
 use Rattle.frames.proofs.Filling.{Put, put-start, put_next, put-end}
 use Rattle.reading.specs.Frames.{flags_in, values_in}
 use Rattle.characters.specs.Characters.{digit}
@@ -39,80 +40,41 @@ module _ (line : List ℕ) (n : ℕ) (room : n + 2 ≤ length line) where
       value-at (take n (drop 2 line)) i (omega (arith, digits-size))
       ∙ ap digit (get_or-take n (drop 2 line) i 0 h ∙ get_or-drop 2 line i 0 ∙ ap (λ (k : ℕ). get_or line k 0) {x = 2 + i} {y = i + 2} (omega arith))
 
-pub record Valued (line : List ℕ) (n : ℕ) (d₀ d : List ℕ) (i : ℕ) : Type 0 where
-  pub most : i ≤ n
-  pub put : Put (behind_values line n) d₀ d i
+-- the digits behind the kind, as a slice of the line
+abbrev pub digits_behind : List ℕ → ℕ → List ℕ
+digits_behind line n = take (n + 2 - 2) (drop 2 line)
 
-pub valued_start : (line : List ℕ) (n : ℕ) (d : List ℕ) → Valued line n d d 0
-valued_start line n d = record { most = omega arith; put = put-start (behind_values line n) d }
+pub digits-same : (line : List ℕ) (n : ℕ) → digits_behind line n ≡ take n (drop 2 line)
+digits-same line n = let e : n + 2 - 2 ≡ n = omega arith in ap (λ (k : ℕ). take k (drop 2 line)) e
 
-pub valued_digit : (line : List ℕ) (n i : ℕ) → AllDigits line (n + 2) → i < n → digit (get_or line (i + 2) 0) < 16
-valued_digit line n i a h = digit-below line (n + 2) (i + 2) a (omega arith)
+digit-there : (line : List ℕ) (n i : ℕ) → AllDigits line (n + 2) → i < n → digit (get_or line (i + 2) 0) < 16
+digit-there line n i a h = digit-below line (n + 2) (i + 2) a (omega arith)
 
-pub valued_next : (line : List ℕ) (n : ℕ) (d₀ d : List ℕ) (i x : ℕ) → n + 2 ≤ length line → n ≤ length d₀ → i < n → x ≡ digit (get_or line (i + 2) 0)
-    → Valued line n d₀ d i → Valued line n d₀ (set d i x) (i + 1)
-valued_next line n d₀ d i x room m h e s =
-    record { most = omega arith; put = put_next (behind_values line n) d₀ d i x (omega arith) (e ∙ sym (value_there line n room i h)) s.put }
+pub valued_digit : (line : List ℕ) (n i : ℕ) → AllDigits line (n + 2) → i < length (digits_behind line n) → digit (get_or (digits_behind line n) i 0) < 16
+valued_digit line n i a h =
+    let l : i < n = omega (arith, h, ap length (digits-same line n), digits-size line n a.room) in
+    let e = ap (λ (d : List ℕ). get_or d i 0) (digits-same line n) ∙ get_or-take n (drop 2 line) i 0 l ∙ get_or-drop 2 line i 0 in
+    let z : 2 + i ≡ i + 2 = omega arith in
+    omega (arith, ap digit (e ∙ ap (λ (k : ℕ). get_or line k 0) z), digit-there line n i a l)
 
-pub valued_end : (line : List ℕ) (n : ℕ) (d₀ d : List ℕ) (i : ℕ) → n + 2 ≤ length line → n ≤ length d₀ → n ≤ i → Valued line n d₀ d i → d ≡ over (behind_values line n) d₀
-valued_end line n d₀ d i room m h s =
-    put-end (behind_values line n) d₀ d i (omega (arith, values-size line n room, h, s.most)) (omega (arith, m, s.most)) s.put
+pub valued_next : (ds d₀ d : List ℕ) (i x : ℕ) → i < length ds → i < length d₀ → x ≡ digit (get_or ds i 0) → Put (digit_values ds) d₀ d i → Put (digit_values ds) d₀ (set d i x) (i + 1)
+valued_next ds d₀ d i x l m e = put_next (digit_values ds) d₀ d i x m (e ∙ sym (value-at ds i l))
 
--- ---- four digits as two bytes
-
-low_byte : (n a b : ℕ) → a < 256 → n ≡ a + 256 * b → n % 256 ≡ a
-low_byte n a b h e = omega arith
-
-above_byte : (n a b : ℕ) → a < 256 → n ≡ a + 256 * b → n / 256 ≡ b
-above_byte n a b h e = omega arith
-
-above-two : (n a b : ℕ) → a < 65536 → n ≡ a + 65536 * b → n / 65536 ≡ b
-above-two n a b h e = omega arith
-
--- sixteen times a word of four digits, and the word a byte lower: each byte of the sum is sixteen times a digit and the next digit
-joined : (a b c d w u x : ℕ) → w ≡ (a + 256 * b) + 65536 * (c + 256 * d) → u ≡ b + 256 * (c + 256 * d) → x ≡ 16 * w + u
-    → x ≡ (16 * a + b) + 256 * ((16 * b + c) + 256 * ((16 * c + d) + 256 * (16 * d)))
-joined a b c d w u x e f g = omega arith
-
-module _ (a b c d : ℕ) (p : a < 16) (q : b < 16) (r : c < 16) (s : d < 16) (w : ℕ) (e : w ≡ (a + 256 * b) + 65536 * (c + 256 * d)) where
-  sum : 16 * w + w / 256 ≡ (16 * a + b) + 256 * ((16 * b + c) + 256 * ((16 * c + d) + 256 * (16 * d)))
-  sum = joined a b c d w (w / 256) (16 * w + w / 256) e (above_byte w a (b + 256 * (c + 256 * d)) (omega (arith, p)) (omega (arith, e))) refl
-
-  two-low : (16 * w + w / 256) % 256 ≡ 16 * a + b
-  two-low = low_byte (16 * w + w / 256) (16 * a + b) ((16 * b + c) + 256 * ((16 * c + d) + 256 * (16 * d))) (omega (arith, p, q)) sum
-
-  two-high : (16 * w + w / 256) / 65536 % 256 ≡ 16 * c + d
-  two-high =
-      ap (λ (n : ℕ). n % 256) (above-two (16 * w + w / 256) ((16 * a + b) + 256 * (16 * b + c)) ((16 * c + d) + 256 * (16 * d)) (omega (arith, p, q, r)) (sum ∙ regroup))
-      ∙ low_byte ((16 * c + d) + 256 * (16 * d)) (16 * c + d) (16 * d) (omega (arith, r, s)) refl
-    where
-      regroup : (16 * a + b) + 256 * ((16 * b + c) + 256 * ((16 * c + d) + 256 * (16 * d))) ≡ ((16 * a + b) + 256 * (16 * b + c)) + 65536 * ((16 * c + d) + 256 * (16 * d))
-      regroup = omega arith
-
-pub two_in_word : (l : List ℕ) (i w₀ w₁ w₂ w₃ : ℕ) → FourDigits l i → w₀ ≡ get_or l i 0 → w₁ ≡ get_or l (i + 1) 0 → w₂ ≡ get_or l (i + 2) 0 → w₃ ≡ get_or l (i + 3) 0
-    → TwoBytes l i (16 * ((w₀ + 256 * w₁) + 65536 * (w₂ + 256 * w₃)) + ((w₀ + 256 * w₁) + 65536 * (w₂ + 256 * w₃)) / 256)
-two_in_word l i w₀ w₁ w₂ w₃ h a b c d =
-    record {
-      low = two-low w₀ w₁ w₂ w₃ p q r s w refl ∙ ap₂ (λ (x y : ℕ). 16 * x + y) a b;
-      high = two-high w₀ w₁ w₂ w₃ p q r s w refl ∙ ap₂ (λ (x y : ℕ). 16 * x + y) c d;
-    }
-  where
-    w : ℕ
-    w = (w₀ + 256 * w₁) + 65536 * (w₂ + 256 * w₃)
-
-    p : w₀ < 16
-    p = omega (arith, a, h.first)
-
-    q : w₁ < 16
-    q = omega (arith, b, h.second)
-
-    r : w₂ < 16
-    r = omega (arith, c, h.third)
-
-    s : w₃ < 16
-    s = omega (arith, d, h.fourth)
+pub valued_end : (line d₀ d : List ℕ) (n i : ℕ) → n + 2 ≤ length line → n ≤ length d₀ → i ≡ length (digits_behind line n) → Put (digit_values (digits_behind line n)) d₀ d i
+    → d ≡ over (behind_values line n) d₀
+valued_end line d₀ d n i room m e h =
+    let q = digits-same line n in
+    let z : i ≡ n = omega (arith, e, ap length q, digits-size line n room) in
+    put-end (digit_values (digits_behind line n)) d₀ d i (values-count (digits_behind line n) ∙ sym e) (omega (arith, z, m)) h ∙ ap (λ (l : List ℕ). over (digit_values l) d₀) q
 
 -- ---- the samples, from the values
+
+chunk-at : (k j : ℕ) (d : List ℕ) → j < k → get_or (first_chunks 4 k d) j [] ≡ take 4 (drop (4 * j) d)
+chunk-at zero j d h = absurd (omega arith)
+chunk-at (suc k) zero d h = refl
+chunk-at (suc k) (suc j) d h =
+    let e : 4 + 4 * j ≡ 4 * suc j = omega arith in
+    chunk-at k j (drop 4 d) (omega arith) ∙ ap (take 4) (drop-drop (4 * j) 4 d ∙ ap (λ (i : ℕ). drop i d) e)
 
 module _ (line d d₀ : List ℕ) (n : ℕ) (all : AllDigits line (4 * n + 2)) (e : d ≡ over (behind_values line (4 * n)) d₀) where
   value_held : (i : ℕ) → i < 4 * n → get_or d i 0 ≡ digit (get_or line (i + 2) 0)
@@ -122,29 +84,38 @@ module _ (line d d₀ : List ℕ) (n : ℕ) (all : AllDigits line (4 * n + 2)) (
       ∙ get_or-append (behind_values line (4 * n)) (drop (length (behind_values line (4 * n))) d₀) 0 i (omega (arith, values-size line (4 * n) all.room))
       ∙ value_there line (4 * n) all.room i h
 
-  small : (i : ℕ) → i < 4 * n → get_or d i 0 < 16
-  small i h = omega (arith, value_held i h, valued_digit line (4 * n) i all h)
+  -- cut into fours, of which the first n are the samples
+  module _ (fours : List (List ℕ)) (f : fours ≡ first_chunks 4 (length d / 4) d) (most : 4 * n ≤ length d) where
+    abbrev pub four : ℕ → List ℕ
+    four j = get_or (take n fours) j []
 
-  pub four-digits : (j : ℕ) → 4 * n ≤ length d → j < n → FourDigits d (4 * j)
-  four-digits j m h =
-      record {
-        room = omega (arith, m, h);
-        first = small (4 * j) (omega arith);
-        second = small (4 * j + 1) (omega arith);
-        third = small (4 * j + 2) (omega arith);
-        fourth = small (4 * j + 3) (omega arith);
-      }
+    held-at : (j r m : ℕ) → j < n → r < 4 → m ≡ 4 * j + (r + 2) → get_or (four j) r 0 ≡ digit (get_or line m 0)
+    held-at j r m h l z =
+        ap (λ (x : List ℕ). get_or x r 0) (get_or-take n fours j [] h ∙ ap (λ (x : List (List ℕ)). get_or x j []) f ∙ chunk-at (length d / 4) j d (omega (arith, most)))
+        ∙ get_or-take 4 (drop (4 * j) d) r 0 l ∙ get_or-drop (4 * j) d r 0 ∙ value_held (4 * j + r) (omega arith)
+        ∙ ap (λ (i : ℕ). digit (get_or line i 0)) {x = 4 * j + r + 2} {y = m} (omega arith)
 
-  held_at : (i k : ℕ) → i < 4 * n → k ≡ i + 2 → get_or d i 0 ≡ digit (get_or line k 0)
-  held_at i k h z = value_held i h ∙ ap (λ (m : ℕ). digit (get_or line m 0)) (sym z)
+    small : (j r : ℕ) → j < n → r < 4 → get_or (four j) r 0 < 16
+    small j r h l = omega (arith, held-at j r (4 * j + r + 2) h l (omega arith), digit-there line (4 * n) (4 * j + r) all (omega arith))
 
-  pub low-is-flag : (j x : ℕ) → j < n → TwoBytes d (4 * j) x → x % 256 ≡ byte line (4 * j + 2)
-  low-is-flag j x h t =
-      t.low ∙ ap₂ (λ (x y : ℕ). 16 * x + y) (held_at (4 * j) (4 * j + 2) (omega arith) (omega arith)) (held_at (4 * j + 1) (4 * j + 2 + 1) (omega arith) (omega arith))
+    pub four-count : length fours ≡ length d / 4 → length (take n fours) ≡ n
+    four-count l = length-take-le n fours (omega (arith, l, most))
 
-  pub high-is-value : (j x : ℕ) → j < n → TwoBytes d (4 * j) x → x / 65536 % 256 ≡ byte line (4 * j + 4)
-  high-is-value j x h t =
-      t.high ∙ ap₂ (λ (x y : ℕ). 16 * x + y) (held_at (4 * j + 2) (4 * j + 4) (omega arith) (omega arith)) (held_at (4 * j + 3) (4 * j + 4 + 1) (omega arith) (omega arith))
+    pub four-digits : (j : ℕ) → j < n → FourDigits (four j)
+    four-digits j h = record {
+      first = small j 0 h (omega arith);
+      second = small j 1 h (omega arith);
+      third = small j 2 h (omega arith);
+      fourth = small j 3 h (omega arith);
+    }
+
+    pub low-is-flag : (j x : ℕ) → j < n → TwoBytes (four j) x → x % 256 ≡ byte line (4 * j + 2)
+    low-is-flag j x h t =
+        t.low ∙ ap₂ (λ (x y : ℕ). 16 * x + y) (held-at j 0 (4 * j + 2) h (omega arith) (omega arith)) (held-at j 1 (4 * j + 2 + 1) h (omega arith) (omega arith))
+
+    pub high-is-value : (j x : ℕ) → j < n → TwoBytes (four j) x → x / 65536 % 256 ≡ byte line (4 * j + 4)
+    high-is-value j x h t =
+        t.high ∙ ap₂ (λ (x y : ℕ). 16 * x + y) (held-at j 2 (4 * j + 4) h (omega arith) (omega arith)) (held-at j 3 (4 * j + 4 + 1) h (omega arith) (omega arith))
 
 -- ---- the two buffers of a line with n samples
 

@@ -54,15 +54,14 @@ abbrev pub digit_values : List ℕ → List ℕ
 digit_values [] = []
 digit_values (c ∷ l) = digit c ∷ digit_values l
 
--- four values of digits stand from place i on
-pub record FourDigits (d : List ℕ) (i : ℕ) : Type 0 where
-  pub room : i + 3 < length d
-  pub first : get_or d i 0 < 16
-  pub second : get_or d (i + 1) 0 < 16
-  pub third : get_or d (i + 2) 0 < 16
-  pub fourth : get_or d (i + 3) 0 < 16
+-- four values of digits
+pub record FourDigits (d : List ℕ) : Type 0 where
+  pub first : get_or d 0 0 < 16
+  pub second : get_or d 1 0 < 16
+  pub third : get_or d 2 0 < 16
+  pub fourth : get_or d 3 0 < 16
 
 -- the two bytes of four digits in one word
-pub record TwoBytes (d : List ℕ) (i x : ℕ) : Type 0 where
-  pub low : x % 256 ≡ 16 * get_or d i 0 + get_or d (i + 1) 0
-  pub high : x / 65536 % 256 ≡ 16 * get_or d (i + 2) 0 + get_or d (i + 3) 0
+pub record TwoBytes (d : List ℕ) (x : ℕ) : Type 0 where
+  pub low : x % 256 ≡ 16 * get_or d 0 0 + get_or d 1 0
+  pub high : x / 65536 % 256 ≡ 16 * get_or d 2 0 + get_or d 3 0

@@ -5,32 +5,22 @@ ghost use Rattle.reading.specs.Post.{AllDigits, FillPost, digit_values, FourDigi
 
 use characters::value;
 
-fn wide(x: u8) -> u32
-    ensures { result ≡ x }
-{
-    x as u32
-}
-
 // The values of the n digits behind the kind, at the start of a buffer.
 fn put_values(line: &[u8], n: usize, digits: &mut [u8])
     requires { (n ≤ length digits.old) × AllDigits line.now (n + 2) }
     ensures { digits.new ≡ over (digit_values (take n (drop 2 line.now))) digits.old }
 {
-    let mut i: usize = 0;
-    while i < n {
-        digits[i] = value(line[i + 2]);
-        i += 1;
+    for (i, c) in line[2..n + 2].iter().enumerate() {
+        digits[i] = value(*c);
     }
 }
 
-// The two bytes of the four values from i on: the first in the low byte, the second two bytes higher.
-fn two_bytes(digits: &[u8], i: usize) -> u32
-    requires { FourDigits digits.now i }
-    ensures { TwoBytes digits.now i result }
+// The two bytes of four values: the first in the low byte, the second two bytes higher.
+fn two_bytes(digits: [u8; 4]) -> u32
+    requires { FourDigits digits }
+    ensures { TwoBytes digits result }
 {
-    let low = wide(digits[i]) + 256 * wide(digits[i + 1]);
-    let high = wide(digits[i + 2]) + 256 * wide(digits[i + 3]);
-    let four = low + 65536 * high;
+    let four = u32::from_le_bytes(digits);
     16 * four + four / 256
 }
 
@@ -41,11 +31,10 @@ pub fn fill(line: &[u8], n: usize, flags: &mut [u8], values: &mut [u8])
 {
     let mut digits = [0u8; 256];
     put_values(line, 4 * n, &mut digits);
-    let mut j: usize = 0;
-    while j < n {
-        let two = two_bytes(&digits, 4 * j);
+    let (fours, _) = digits.as_chunks::<4>();
+    for (j, four) in fours[..n].iter().enumerate() {
+        let two = two_bytes(*four);
         flags[j] = (two % 256) as u8;
         values[j] = (two / 65536 % 256) as u8;
-        j += 1;
     }
 }

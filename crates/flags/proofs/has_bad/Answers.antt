@@ -1,25 +1,25 @@
--- `has_bad` tells whether a byte is bad. The invariant: those before i are good.
-use native.Mathlib.Omega.{arith}
-use Rattle.flags.proofs.BadBlocks.{pass-first, pass-next, pass-found, pass-last}
+-- `has_bad` tells whether a byte is bad: one of a block, or one behind the blocks.
+use Prim.Native.Nat.{◌/◌}
+use mathlib.Core.Path.{ap, ◌∙◌}
+use lib.ListN.{length}
+use Rattle.std.specs.Simd.{first_chunks}
+use Rattle.std.proofs.Common.{rules, tests}
+use Rattle.std.proofs.lemmas.Iterator.{YieldsList-from_slice}
+use Rattle.std.proofs.lemmas.Iterator.Search.{any_from_yields_List}
+use Rattle.rules.specs.Lists.{any}
+use Rattle.rules.specs.Samples.{bad}
+use Rattle.flags.proofs.Blocks.{any_in_block, any_behind}
 use Rattle.flags.proofs.has_bad.Goals as goal
 
-pub loop-i-init : goal.loop-i-init
-loop-i-init c = pass-first c.args.flags.now
+pub returns-then-any : goal.returns-then-any
+returns-then-any c =
+    let f = c.args.flags.now in
+    let n = length f / 64 in
+    any_in_block bad n f (any_from_yields_List (any bad) _ _ _ c.any.ensures.ran (YieldsList-from_slice (first_chunks 64 n f) cc) (λ x b q k. search (rules, tests))) c.if-any.true
 
-pub returns-then-bad_block : goal.returns-then-bad_block
-returns-then-bad_block c =
-    let l = c.loop-i in
-    pass-found c.args.flags.now l.i c.bad_block.ensures c.if-bad_block.true l.invariant
-
-pub loop-i-smaller : goal.loop-i-smaller
-loop-i-smaller c = omega (arith, c.loop-i.invariant.within, c.loop-i-test.true)
-
-pub loop-i-preserved : goal.loop-i-preserved
-loop-i-preserved c =
-    let l = c.loop-i in
-    pass-next c.args.flags.now l.i (omega (arith, l.invariant.within, c.loop-i-test.true)) c.bad_block.ensures c.if-bad_block.false l.invariant
-
-pub returns : goal.returns
-returns c =
-    let l = c.loop-i in
-    pass-last c.args.flags.now l.i c.bad_from.ensures l.invariant
+pub returns-else-any : goal.returns-else-any
+returns-else-any c =
+    let f = c.args.flags.now in
+    let n = length f / 64 in
+    c.bad_byte.ensures ∙ ap (any bad) c.as_chunks.ensures.back
+    ∙ any_behind bad n f (any_from_yields_List (any bad) _ _ _ c.any.ensures.ran (YieldsList-from_slice (first_chunks 64 n f) cc) (λ x b q k. search (rules, tests))) c.if-any.false

@@ -1,10 +1,5 @@
-use native.Mathlib.Omega.{arith}
-use lib.ListN.{length-set}
 use Rattle.hexadecimal.proofs.Digits.{byte_put}
 use Rattle.hexadecimal.proofs.put_byte.Goals as goal
-
-pub bounds-out-at-2 : goal.bounds-out-at-2
-bounds-out-at-2 c = omega (arith, length-set c.args.out.now c.args.at c.glyph.result)
 
 pub returns : goal.returns
 returns c =

@@ -1,9 +1,5 @@
 use Rattle.reading.proofs.Filling.{Filling}
-use Prim.Native.Nat.{◌-◌}
 use Rattle.reading.proofs.samples.fill.Given as goal
 
 abbrev pub invariant-loop-j : goal.invariant-loop-j
 invariant-loop-j l = Filling l.line l.n l.initial.flags l.initial.values l.flags l.values l.j
-
-abbrev pub decreases-loop-j : goal.decreases-loop-j
-decreases-loop-j l = l.n - l.j
