@@ -3,6 +3,7 @@
 #![tactic(auto)]
 
 ghost use Rattle.std.specs.Prelude.{◌≡◌, ◌+◌, ◌%◌, ◌^◌, ◌≤◌, length, take};
+ghost use Rattle.carrying.specs.Text.{said_of};
 ghost use Rattle.carrying.specs.Post.{Prints, PrintPost, PassPost, CarriedPost, ToStartPost};
 
 use lines::{Scan, Scanned, scan_lines};
@@ -31,6 +32,8 @@ pub enum Stop {
 }
 
 impl fmt::Display for Stop {
+    ghost output = { said_of };
+
     fn fmt<W: fmt::Write>(&self, f: &mut fmt::Formatter<W>) -> fmt::Result {
         match self {
             Stop::Refused(number, used) => write!(f, "refusal {number} at byte {used}"),
