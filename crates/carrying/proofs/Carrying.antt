@@ -1,18 +1,17 @@
 -- What is printed and what is left, scan after scan.
-use Rattle.std.proofs.Common.{◌≡◌, ℕ, ◌≤◌, false, List, [], ◌++◌, length, take, drop, sym, refl, ap, ◌∙◌, subst, append_assoc, append-nil, arith, length-take-le}
+use Rattle.std.proofs.Common.{◌≡◌, ℕ, ◌≤◌, false, List, [], ◌++◌, Result, Ok, Err, IsErrAnd, length, take, drop, sym, refl, ap, ◌∙◌, subst, append_assoc, append-nil, arith, length-take-le}
 use Rattle.processor.specs.declared.Processor.{Processor}
 use Rattle.processor.specs.State.{Sweep, Made}
 use Rattle.ends.specs.Ends.{LinePast}
 use Rattle.lines.specs.declared.scan.Scan.{Scan}
-use Rattle.lines.specs.declared.scan.Scan.TheVariants.{Rest, Stopped, Full as NoRoom}
+use Rattle.lines.specs.declared.scan.Scan.TheVariants.{Rest, Stopped, Full}
 use Rattle.lines.specs.Survey.{lines_in}
 use Rattle.lines.specs.Post.{afterwards}
-use Rattle.carrying.specs.Failing.{Failing}
-use Rattle.carrying.specs.declared.Passed.{Passed}
-use Rattle.carrying.specs.Post.{Carries, PassPost}
-use Rattle.carrying.specs.declared.Course.TheVariants.{Goes, Over, Failed}
+use Rattle.lines.specs.declared.scan.Scanned.{Scanned}
+use Rattle.carrying.specs.declared.Stop.{Stop}
+use Rattle.carrying.specs.declared.Stop.TheVariants.{Refused, Unread, CannotRead, CannotWrite, NoRoom}
 use Rattle.carrying.specs.declared.Survey.{Survey}
-use Rattle.carrying.specs.Post.{CarriedPost, ended_as, ToStartPost}
+use Rattle.carrying.specs.Post.{Carries, Fails, Passed, Stops, CarriedPost, ToStartPost}
 use Rattle.carrying.proofs.Keeping.{part_of, past-part}
 
 -- the bytes held, up to a place
@@ -26,12 +25,21 @@ module _ (p₀ : Processor) (held : List ℕ) where
   carrying_start =
       record { reach = omega arith; new = λ σ m. []; carries = λ σ m. record { next = σ; made = m; same = λ R t. refl } }
 
-  pub carried_failed : (p : Processor) (x : Survey) (input : List ℕ) → x ≡ ended_as Failed p → Failing → CarriedPost p₀ held x input
-  carried_failed p x input e f =
-      subst (λ (y : Survey). CarriedPost p₀ held y input) (sym e)
-      (record { inside = omega arith; new = λ σ m. []; left = λ σ m. f })
+  -- what fails is no refusal
+  stops_failing : (x : Stop) (σ : Sweep) (new : List ℕ) → Fails x → Stops x σ held new
+  stops_failing (Refused k used) σ new f = absurd f
+  stops_failing Unread σ new f = f
+  stops_failing (CannotRead e) σ new f = f
+  stops_failing (CannotWrite e) σ new f = f
+  stops_failing NoRoom σ new f = f
 
-  module _ (p : Processor) (from : ℕ) (h : Carrying p₀ held p from) (r : Passed) (g : PassPost p held from r) where
+  -- a failed write, or a number of turns that no run uses up
+  pub carried_failed : (r : Result Survey Stop) (input : List ℕ) (e : Stop) → Fails e → IsErrAnd r (λ x. x ≡ e) → CarriedPost p₀ held r input
+  carried_failed (Ok s) input e f h = absurd h
+  carried_failed (Err x) input e f h =
+      record { inside = tt; new = λ σ m. []; left = λ σ m. stops_failing x σ [] (subst Fails (sym h) f) }
+
+  module _ (p : Processor) (from : ℕ) (h : Carrying p₀ held p from) (r : Scanned) (g : Passed p held from r) where
     both : (σ : Sweep) → Made σ p₀ → List ℕ
     both σ m =
         let d = h.carries σ m in
@@ -52,26 +60,24 @@ module _ (p₀ : Processor) (held : List ℕ) where
         })
 
     -- the output was full: the next scan goes on
-    pub carrying_next : r.scan ≡ NoRoom → Carrying p₀ held r.processor r.from
+    pub carrying_next : r.scan ≡ Full → Carrying p₀ held r.processor r.from
     carrying_next e =
         record {
           reach = g.reach;
           new = both;
           carries = λ σ m.
-              let d = joined NoRoom e σ m in
+              let d = joined Full e σ m in
               record { next = d.next; made = d.made; same = d.same };
         }
 
     -- a refusal: this is all
-    pub carried-over : (k : ℕ) → r.scan ≡ Stopped k → (held₀ : List ℕ) → held ≡ held₀ → (x : Survey) (input : List ℕ) → x ≡ ended_as Over r.processor → CarriedPost p₀ held₀ x input
-    carried-over k e held₀ s x input is =
-        subst (λ (y : List ℕ). CarriedPost p₀ y x input) s
-        (subst (λ (y : Survey). CarriedPost p₀ held y input) (sym is)
-        (record { inside = omega arith; new = both; left = λ σ m R. (joined (Stopped k) e σ m).same R tt ∙ append-nil (both σ m) }))
+    pub carried-over : (k used : ℕ) → r.scan ≡ Stopped k → (input : List ℕ) → CarriedPost p₀ held (Err (Refused k used)) input
+    carried-over k used e input =
+        record { inside = tt; new = both; left = λ σ m R. (joined (Stopped k) e σ m).same R tt ∙ append-nil (both σ m) }
 
     -- no whole line is left
     carried-rest : r.scan ≡ Rest → (k used : ℕ) (input : List ℕ) → k ≤ length input → take k input ≡ drop r.from held
-        → CarriedPost p₀ held (record { course = Goes; processor = r.processor; kept = k; used = used }) input
+        → CarriedPost p₀ held (Ok (record { processor = r.processor; kept = k; used = used })) input
     carried-rest e k used input l is =
         record {
           inside = l;
@@ -83,10 +89,10 @@ module _ (p₀ : Processor) (held : List ℕ) where
 
 -- what is left of the first n bytes has moved to the start
 pub carried-kept : (p₀ : Processor) (n : ℕ) (input₀ input : List ℕ) → input ≡ input₀ → n ≤ length input → (p : Processor) (from : ℕ) → Carrying p₀ (take n input) p from
-    → (r : Passed) → PassPost p (take n input) from r → r.scan ≡ Rest → (k used : ℕ) (input' : List ℕ) → length input' ≡ length input → ToStartPost r.from n input k input'
-    → CarriedPost p₀ (take n input₀) (record { course = Goes; processor = r.processor; kept = k; used = used }) input'
+    → (r : Scanned) → Passed p (take n input) from r → r.scan ≡ Rest → (k used : ℕ) (input' : List ℕ) → length input' ≡ length input → ToStartPost r.from n input k input'
+    → CarriedPost p₀ (take n input₀) (Ok (record { processor = r.processor; kept = k; used = used })) input'
 carried-kept p₀ n input₀ input same h p from c r g e k used input' l s =
     let size = length-take-le n input h in
-    subst (λ (x : List ℕ). CarriedPost p₀ (take n x) (record { course = Goes; processor = r.processor; kept = k; used = used }) input') same
+    subst (λ (x : List ℕ). CarriedPost p₀ (take n x) (Ok (record { processor = r.processor; kept = k; used = used })) input') same
     (carried-rest p₀ (take n input) p from c r g e k used input' (omega (arith, s.count))
     (ap (λ (x : ℕ). take x input') s.count ∙ s.moved ∙ sym (part_of r.from n input (omega (arith, g.reach)) h)))

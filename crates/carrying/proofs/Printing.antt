@@ -1,5 +1,5 @@
 -- What a scan wrote is what may be printed.
-use Rattle.std.proofs.Common.{◌≡◌, ℕ, ◌+◌, ◌-◌, ◌≤◌, Bool, false, List, ◌++◌, length, take, drop, sym, ap, ◌∙◌, subst, arith}
+use Rattle.std.proofs.Common.{◌≡◌, ℕ, ◌+◌, ◌-◌, ◌≤◌, false, List, ◌++◌, Result, Ok, Err, IsErrAnd, length, take, drop, sym, ap, ◌∙◌, subst, arith}
 use Rattle.rules.specs.Buffers.{over-at}
 use Rattle.processor.specs.declared.Processor.{Processor}
 use Rattle.lines.specs.declared.scan.Scan.{Scan}
@@ -7,7 +7,8 @@ use Rattle.lines.specs.declared.scan.Scanned.{Scanned}
 use Rattle.lines.specs.Survey.{lines_in}
 use Rattle.lines.specs.Post.{afterwards, Because, ScanPost}
 use Rattle.lines.proofs.Turns.{read_back}
-use Rattle.carrying.specs.Post.{Prints, PrintPost, PassPost}
+use Rattle.carrying.specs.declared.Stop.{Stop}
+use Rattle.carrying.specs.Post.{Prints, Fails, Passed, PassPost}
 
 -- what was written from the start of the output on stands there
 pub at-start : (new : List ℕ) (n : ℕ) (b b' : List ℕ) → n ≡ 0 + length new → b' ≡ over-at new 0 b → take n b' ≡ new
@@ -29,14 +30,18 @@ module _ (p : Processor) (input : List ℕ) (from : ℕ) (b : List ℕ) (r : Sca
             };
       }
 
-  pub scan-passed : from ≤ length input → (w : Bool) → PrintPost w → PassPost p input from (record { scan = r.scan; processor = r.processor; from = r.from; written = w })
-  scan-passed l w f =
+  pub scan-passed : from ≤ length input → Passed p input from r
+  scan-passed l =
       record {
         reach = h.reach l;
         past = λ σ m e. subst (λ (x : Scan). Because x input r.from r.at b) e (h.because σ m);
-        failing = f.failing;
         new = λ σ m. (h.scans σ m).new;
         carries = λ σ m.
             let d = h.scans σ m in
             record { next = d.next; made = d.made; same = λ R t. d.same R };
       }
+
+-- where the write fails, the scan does
+pub pass_fails : (p : Processor) (input : List ℕ) (from : ℕ) (r : Result Scanned Stop) (e : Stop) → Fails e → IsErrAnd r (λ x. x ≡ e) → PassPost p input from r
+pass_fails p input from (Ok x) e f h = absurd h
+pass_fails p input from (Err x) e f h = subst Fails (sym h) f

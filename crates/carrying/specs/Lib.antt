@@ -1,3 +1,4 @@
 -- What is printed of the bytes that were read, and what is kept of them.
 pub mod Failing
 pub mod Post
+pub mod Text

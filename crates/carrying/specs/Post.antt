@@ -1,5 +1,5 @@
 -- What is printed of the bytes that were read, and what is kept of them.
-use Rattle.std.specs.Prelude.{◌≡◌, ℕ, ◌-◌, ◌≤◌, Bool, true, false, List, [], ◌++◌, length, take, drop}
+use Rattle.std.specs.Prelude.{◌≡◌, ℕ, ◌-◌, ◌≤◌, Bool, true, false, List, [], ◌++◌, length, take, drop, Result, Ok, Err, IfOk, IfErr, MatchResult}
 use Rattle.processor.specs.declared.Processor.{Processor}
 use Rattle.processor.specs.State.{Sweep, Made}
 use Rattle.ends.specs.Ends.{LinePast}
@@ -9,10 +9,9 @@ use Rattle.lines.specs.declared.scan.Scanned.{Scanned}
 use Rattle.lines.specs.Survey.{lines_in, surveyed}
 use Rattle.lines.specs.Post.{afterwards}
 use Rattle.carrying.specs.Failing.{Failing}
-use Rattle.carrying.specs.declared.Course.{Course}
-use Rattle.carrying.specs.declared.Course.TheVariants.{Goes, Over, Failed}
+use Rattle.carrying.specs.declared.Stop.{Stop}
+use Rattle.carrying.specs.declared.Stop.TheVariants.{Refused, Unread, CannotRead, CannotWrite, NoRoom}
 use Rattle.carrying.specs.declared.Survey.{Survey}
-use Rattle.carrying.specs.declared.Passed.{Passed}
 
 -- ---- what is printed
 
@@ -32,35 +31,48 @@ pub record Carries (σ : Sweep) (held : List ℕ) (complete : Bool) (scan : Scan
 pub record Prints (p : Processor) (input : List ℕ) (from : ℕ) (complete : Bool) (r : Scanned) (bytes : List ℕ) : Type 0 where
   pub carries : (σ : Sweep) → Made σ p → Carries σ (drop from input) complete r.scan r.processor (drop r.from input) bytes
 
--- it is false for a failed write alone
-pub record PrintPost (written : Bool) : Type 0 where
-  pub failing : written ≡ false → Failing
+-- what a survey stops for without a refusal
+abbrev pub Fails : Stop → Type 0
+Fails (Refused k used) = ⊥
+Fails Unread = Failing
+Fails (CannotRead e) = Failing
+Fails (CannotWrite e) = Failing
+Fails NoRoom = Failing
+
+-- it stops for a failed write alone
+pub record PrintPost (r : Result (Unit {0}) Stop) : Type 0 where
+  pub failing : IfErr r Fails
 
 -- ---- what is carried out
 
 -- one scan: `new` was printed, and if the lines are at their end, the rest holds no whole one
-pub record PassPost (p : Processor) (input : List ℕ) (from : ℕ) (r : Passed) : Type 0 where
+pub record Passed (p : Processor) (input : List ℕ) (from : ℕ) (r : Scanned) : Type 0 where
   pub reach : r.from ≤ length input
   pub past : (σ : Sweep) → Made σ p → r.scan ≡ Rest → LinePast input r.from
-  pub failing : r.written ≡ false → Failing
   pub new : (σ : Sweep) → Made σ p → List ℕ
   pub carries : (σ : Sweep) (m : Made σ p) → Carries σ (drop from input) false r.scan r.processor (drop r.from input) (new σ m)
 
--- What is known of the bytes held, those kept and those printed. A survey that goes on has carried out all whole lines; one that is over printed
--- all there is, whatever comes behind; of one that a failed write ended nothing is.
-abbrev pub Left : Course → Sweep → List ℕ → Processor → List ℕ → List ℕ → Type 0
-Left Goes σ held p rest new = LinePast rest 0 × Carries σ held false Rest p rest new
-Left Over σ held p rest new = (R : List ℕ) → surveyed (lines_in (held ++ R)) σ ≡ new
-Left Failed σ held p rest new = Failing
+abbrev pub PassPost : Processor → List ℕ → ℕ → Result Scanned Stop → Type 0
+PassPost p input from r = MatchResult r (Passed p input from) Fails
+
+-- A survey that is refused printed all there is, whatever comes behind; of one that a failed write ended nothing is known.
+abbrev pub Stops : Stop → Sweep → List ℕ → List ℕ → Type 0
+Stops (Refused k used) σ held new = (R : List ℕ) → surveyed (lines_in (held ++ R)) σ ≡ new
+Stops Unread σ held new = Failing
+Stops (CannotRead e) σ held new = Failing
+Stops (CannotWrite e) σ held new = Failing
+Stops NoRoom σ held new = Failing
+
+-- What is known of the bytes held, those kept and those printed. A survey that goes on has carried out all whole lines.
+abbrev pub Left : Result Survey Stop → Sweep → List ℕ → List ℕ → List ℕ → Type 0
+Left (Ok s) σ held input new = LinePast (take s.kept input) 0 × Carries σ held false Rest s.processor (take s.kept input) new
+Left (Err x) σ held input new = Stops x σ held new
 
 -- all lines of the bytes held: what is left is at the start of the input buffer
-pub record CarriedPost (p : Processor) (held : List ℕ) (r : Survey) (input : List ℕ) : Type 0 where
-  pub inside : r.kept ≤ length input
+pub record CarriedPost (p : Processor) (held : List ℕ) (r : Result Survey Stop) (input : List ℕ) : Type 0 where
+  pub inside : IfOk r (λ s. s.kept ≤ length input)
   pub new : (σ : Sweep) → Made σ p → List ℕ
-  pub left : (σ : Sweep) (m : Made σ p) → Left r.course σ held r.processor (take r.kept input) (new σ m)
-
-abbrev pub ended_as : Course → Processor → Survey
-ended_as c p = record { course = c; processor = p; kept = 0; used = 0 }
+  pub left : (σ : Sweep) (m : Made σ p) → Left r σ held input (new σ m)
 
 -- the bytes between two places are at the start of the input buffer
 pub record ToStartPost (from to : ℕ) (input : List ℕ) (r : ℕ) (input' : List ℕ) : Type 0 where

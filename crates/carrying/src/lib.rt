@@ -1,127 +1,90 @@
 // What a read gave, carried out and printed. The lines are carried out scan after scan, just the bytes that these write are printed, and the rest of
-// the read is kept. What a write does is not in a contract. Standard error is told which refusal stopped the survey and after how many bytes of input,
-// or that a write failed.
+// the read is kept. What a write does is not in a contract.
 #![tactic(auto)]
 
 ghost use Rattle.std.specs.Prelude.{◌≡◌, ◌+◌, ◌%◌, ◌^◌, ◌≤◌, length, take};
-ghost use Rattle.carrying.specs.Post.{ended_as, Prints, PrintPost, PassPost, CarriedPost, ToStartPost};
+ghost use Rattle.carrying.specs.Text.{said_of};
+ghost use Rattle.carrying.specs.Post.{Prints, PrintPost, PassPost, CarriedPost, ToStartPost};
 
 use lines::{Scan, Scanned, scan_lines};
 use processor::Processor;
-use std::io;
+use std::error::Error;
 use std::io::{ErrorKind, Write};
-
-// A proved loop has to end, and nothing says that an input does. So the loops around calls of the system count down from a number that no
-// run uses up.
-pub const TURNS: u64 = 18446744073709551615;
-
-// A survey goes on; or it is over, by a refusal or at the end of the input; or a read or a write failed.
-#[derive(Clone, Copy)]
-pub enum Course {
-    Goes,
-    Over,
-    Failed,
-}
+use std::{fmt, io};
 
 // A survey on its way: the processor, how many bytes at the start of the input buffer are not carried out yet, and how many bytes of input were.
 #[derive(Clone, Copy)]
 pub struct Survey {
-    pub course: Course,
     pub processor: Processor,
     pub kept: usize,
     pub used: u64,
 }
 
-pub fn ended(course: Course, p: Processor) -> Survey
-    ensures { result ≡ ended_as course p }
-{
-    Survey {
-        course,
-        processor: p,
-        kept: 0,
-        used: 0,
+// Why a survey stops before the end of its input: it is refused after so many bytes; nobody reads what it prints any more; a read or a write failed;
+// or the output has no room for a line.
+#[derive(Clone, Copy, Debug)]
+pub enum Stop {
+    Refused(u8, u64),
+    Unread,
+    CannotRead(io::Error),
+    CannotWrite(io::Error),
+    NoRoom,
+}
+
+impl fmt::Display for Stop {
+    ghost output = { said_of };
+
+    fn fmt<W: fmt::Write>(&self, f: &mut fmt::Formatter<W>) -> fmt::Result {
+        match self {
+            Stop::Refused(number, used) => write!(f, "refusal {number} at byte {used}"),
+            Stop::Unread => f.write_str("nobody reads"),
+            Stop::CannotRead(error) => write_failed(f, "cannot read", error),
+            Stop::CannotWrite(error) => write_failed(f, "cannot write", error),
+            Stop::NoRoom => f.write_str("no room for a line"),
+        }
     }
 }
 
-// What a scan came to, and whether what it printed could be written.
-#[derive(Clone, Copy)]
-struct Passed {
-    scan: Scan,
-    processor: Processor,
-    from: usize,
-    written: bool,
-}
+impl Error for Stop {}
 
-// ---- output
-
-// What failed and why, as one line on standard error. The reason is the system's text for it, without the number that `io::Error` writes behind it.
-pub fn fail(rt: &impl Eprint, what: &str, error: &io::Error) {
+// What failed and why. The reason is the system's text for it, without the number that `io::Error` writes behind it.
+fn write_failed<W: fmt::Write>(
+    f: &mut fmt::Formatter<W>,
+    what: &str,
+    error: &io::Error,
+) -> fmt::Result {
     let mut bytes = [0u8; 256];
     let mut writer = io::Cursor::new(bytes.as_mut_slice());
     let _ = write!(writer, "{error}");
     let n = writer.position().min(256) as usize;
     let text = std::str::from_utf8(&bytes[..n]).unwrap_or("");
-    let why = match text.split_once(" (os error ") {
-        Some((words, _)) => words,
-        None => text,
-    };
-    let _ = eprintln!(rt; "{what}: {why}");
+    let why = text
+        .split_once(" (os error ")
+        .map_or(text, |(words, _)| words);
+    write!(f, "{what}: {why}")
 }
 
-// Whether a failed write is no more than a reader that went away. The program ends then, and says nothing.
-fn is_unwanted(error: &io::Error) -> bool {
-    error.kind() == ErrorKind::BrokenPipe
-}
+// ---- output
 
-// One write. A write that fails is reported, and the answer is false; one that a signal interrupts takes nothing.
-fn is_written(rt: &impl Eprint, put: &io::Result<usize>) -> bool {
-    let Err(error) = put else {
-        return true;
-    };
-    if error.kind() == ErrorKind::Interrupted {
-        return true;
-    }
-    if !is_unwanted(error) {
-        fail(rt, "cannot write", error);
-    }
-    false
-}
-
-// Writes the bytes, however little each call takes; the answer is false where a write fails. Its caller shows that they are just those of the lines
-// that were carried out, from a processor and a place of the input on: for this alone it is handed what it does not use.
+// Writes the bytes, however little each call takes. Its caller shows that they are just those of the lines that were carried out, from a processor
+// and a place of the input on: for this alone it is handed what it does not use.
 pub fn print(
-    rt: &(impl Print + Eprint),
+    rt: &impl Print,
     p: Processor,
     input: &[u8],
     from: usize,
     complete: bool,
     r: Scanned,
     bytes: &[u8],
-) -> bool
+) -> Result<(), Stop>
     requires { Prints p input.now from complete r bytes.now }
     ensures { PrintPost result }
 {
-    let n = bytes.len();
-    let mut done: usize = 0;
-    let mut turns = TURNS;
-    while done < n {
-        if turns == 0 {
-            return false;
-        }
-        let rest = &bytes[done..];
-        let put = rt.write_some(rest);
-        if !is_written(rt, &put) {
-            return false;
-        }
-        done += put.unwrap_or(0);
-        turns -= 1;
+    match rt.write_all(bytes) {
+        Ok(()) => Ok(()),
+        Err(error) if error.kind() == ErrorKind::BrokenPipe => Err(Stop::Unread),
+        Err(error) => Err(Stop::CannotWrite(error)),
     }
-    true
-}
-
-// Says which refusal stopped the survey, and after how many bytes of input.
-pub fn report(rt: &impl Eprint, number: u8, used: u64) {
-    let _ = eprintln!(rt; "refusal {number} at byte {used}");
 }
 
 // ---- input
@@ -150,68 +113,50 @@ fn to_start(input: &mut [u8], from: usize, to: usize) -> usize
 
 // Carries out lines from a place on until they end or the output is full, and prints what they give.
 fn pass(
-    rt: &(impl Print + Eprint),
+    rt: &impl Print,
     p: Processor,
     input: &[u8],
     from: usize,
     output: &mut [u8],
-) -> Passed
+) -> Result<Scanned, Stop>
     requires { from ≤ length input.now }
     ensures { PassPost p input.now from result }
 {
     let r = scan_lines(p, input, from, output, 0);
-    let how = r.scan;
-    let at = r.at;
-    let q = r.processor;
-    let written = print(rt, p, input, from, false, r, &output[..at]);
-    Passed {
-        scan: how,
-        processor: q,
-        from: r.from,
-        written,
-    }
+    print(rt, p, input, from, false, r, &output[..r.at])?;
+    Ok(r)
 }
 
-// Carries out the whole lines of the first n bytes of the input. What is left moves to the start of the buffer.
+// Carries out the whole lines of the first n bytes of the input. What is left moves to the start of the buffer. Nothing says that a scan carries out
+// a line, so the loop has a count that no run uses up.
 pub fn carried(
-    rt: &(impl Print + Eprint),
+    rt: &impl Print,
     s: Survey,
     input: &mut [u8],
     n: usize,
     output: &mut [u8],
-) -> Survey
+) -> Result<Survey, Stop>
     requires { n ≤ length input.old }
     ensures { CarriedPost s.processor (take n input.old) result input.new }
 {
     let mut p = s.processor;
     let mut from: usize = 0;
-    let mut turns = TURNS;
-    while turns > 0 {
-        let r = pass(rt, p, &input[..n], from, output);
+    for _ in 0..u64::MAX {
+        let r = pass(rt, p, &input[..n], from, output)?;
         p = r.processor;
         from = r.from;
-        if !r.written {
-            return ended(Course::Failed, p);
-        }
-        let how = r.scan;
-        match how {
+        match r.scan {
+            Scan::Full => {}
+            Scan::Stopped(number) => return Err(Stop::Refused(number, more(s.used, from))),
             Scan::Rest => {
                 let kept = to_start(input, from, n);
-                return Survey {
-                    course: Course::Goes,
+                return Ok(Survey {
                     processor: p,
                     kept,
                     used: more(s.used, from),
-                };
-            }
-            Scan::Full => {
-                turns -= 1;
-            }
-            Scan::Stopped(number) => {
-                report(rt, number, more(s.used, from));
-                return ended(Course::Over, p);
+                });
             }
         }
     }
-    ended(Course::Failed, p)
+    Err(Stop::NoRoom)
 }

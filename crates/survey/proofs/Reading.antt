@@ -1,6 +1,5 @@
 -- What is kept read after read, and what is printed at the end of the input.
-use Rattle.std.proofs.Common.{ℕ, ◌-◌, ◌≤◌, ◌<◌, arith, ◌≡◌, refl, sym, ap, ap₂, ◌∙◌, subst, Bool, true, List, [], ◌++◌, append-nil, length, take}
-use borrow.Rule.Slice.PartMut.{put_mid, take_put}
+use Rattle.std.proofs.Common.{ℕ, ◌<◌, arith, ◌≡◌, refl, sym, ap, ap₂, ◌∙◌, subst, Bool, true, List, [], ◌++◌, Ok, append-nil, length, take}
 use Rattle.rules.specs.Buffers.{over-at}
 use Rattle.processor.specs.declared.Processor.{Processor}
 use Rattle.processor.specs.State.{Sweep, none, idle_processor, processor_of, Made}
@@ -12,14 +11,10 @@ use Rattle.steps.specs.Post.{has_room_lem, output_as, RestPost}
 use Rattle.lines.specs.declared.scan.Scan.TheVariants.{Stopped}
 use Rattle.lines.specs.Survey.{lines_in, surveyed}
 use Rattle.lines.proofs.Scanning.{stood, survey-rest}
-use Rattle.carrying.specs.declared.Course.{Course}
-use Rattle.carrying.specs.declared.Course.TheVariants.{Goes, Over, Failed}
 use Rattle.carrying.specs.declared.Survey.{Survey}
-use Rattle.carrying.specs.Post.{Prints, Left, CarriedPost, ended_as}
+use Rattle.carrying.specs.Post.{Prints, CarriedPost}
 use Rattle.carrying.proofs.Printing.{at-start}
-use Rattle.survey.specs.declared.Came.TheVariants.{More, End}
-use Rattle.survey.specs.declared.Read.{Read}
-use Rattle.survey.specs.Post.{Going, Stands, ReadPost}
+use Rattle.survey.specs.Post.{Going}
 
 -- ---- the end of the input
 
@@ -41,21 +36,13 @@ module _ (p : Processor) (l b : List ℕ) (s : Step) (b' : List ℕ) (h : RestPo
 
 -- ---- read after read
 
--- a read behind the bytes kept leaves these
-pub read_stays : (kept : ℕ) (input got : List ℕ) → kept ≤ length input → take kept (put_mid kept (length input - kept) input got) ≡ take kept input
-read_stays kept input got h = take_put kept (length input - kept) input got h
-
--- more bytes are not the end of the input
-pub more_left : More ≡ End → ⊥
-more_left e = let z : ◌≡◌ {A = ℕ} 0 1 = cc in omega arith
-
 idle-made : Made none idle_processor
 unfolding processor_of
 idle-made = record { is = refl; sound = tt }
 
-pub going_start : (p : Processor) (input : List ℕ) → p ≡ idle_processor → Going p 0 input
+pub going_start : (p : Processor) (input : List ℕ) → p ≡ idle_processor → Going (record { processor = p; kept = 0; used = 0 }) input
 going_start p input e =
-    subst (λ (x : Processor). Going x 0 input) (sym e)
+    subst (λ (x : Processor). Going (record { processor = x; kept = 0; used = 0 }) input) (sym e)
     (record {
       sweep = none;
       made = idle-made;
@@ -63,41 +50,12 @@ going_start p input e =
       past = record { short = omega arith; before = record { none = λ k a b x. omega arith } };
     })
 
-module _ (p : Processor) (kept : ℕ) (input : List ℕ) (g : Going p kept input) where
-  -- a read changes nothing of the bytes kept
-  pub going_same : (input' : List ℕ) → length input' ≡ length input → take kept input' ≡ take kept input → Going p kept input'
-  going_same input' l e =
-      record {
-        sweep = g.sweep;
-        made = g.made;
-        inside = omega (arith, g.inside);
-        past = subst (λ (x : List ℕ). LinePast x 0) (sym e) g.past;
-      }
-
+module _ (s : Survey) (input : List ℕ) (g : Going s input) where
   -- at the end of the input the bytes kept are all there is
-  pub past_end : (r : Read) (input' : List ℕ) → ReadPost kept input r input' → r.came ≡ End → LinePast (take r.n input') 0
-  past_end r input' h e =
-      subst (λ (x : List ℕ). LinePast x 0) (sym (ap (λ (x : ℕ). take x input') (h.at-end e) ∙ h.stays)) g.past
+  pub past_end : (input' : List ℕ) → take s.kept input' ≡ take s.kept input → LinePast (take s.kept input') 0
+  past_end input' e = subst (λ (x : List ℕ). LinePast x 0) (sym e) g.past
 
-  pub stands-carried : (held : List ℕ) (r : Survey) (input' : List ℕ) → CarriedPost p held r input' → Stands r.course r.processor r.kept input'
-  stands-carried held r input' h = go r.course (h.left g.sweep g.made)
-    where
-      go : (c : Course) → Left c g.sweep held r.processor (take r.kept input') (h.new g.sweep g.made) → Stands c r.processor r.kept input'
-      go Goes x = record { sweep = x.1.next; made = x.1.made; inside = h.inside; past = x.0 }
-      go Over x = tt
-      go Failed x = tt
-
-pub stands-over : (p : Processor) (r : Survey) (input : List ℕ) → r ≡ ended_as Over p → Stands r.course r.processor r.kept input
-stands-over p r input e = subst (λ (x : Survey). Stands x.course x.processor x.kept input) (sym e) tt
-
-pub stands_failed : (p : Processor) (r : Survey) (input : List ℕ) → r ≡ ended_as Failed p → Stands r.course r.processor r.kept input
-stands_failed p r input e = subst (λ (x : Survey). Stands x.course x.processor x.kept input) (sym e) tt
-
--- of a survey that is over or has failed nothing is asked
-pub stands_going : (c : Course) (p : Processor) (kept : ℕ) (input : List ℕ) → Going p kept input → Stands c p kept input
-stands_going Goes p kept input g = g
-stands_going Over p kept input g = tt
-stands_going Failed p kept input g = tt
-
-pub goes_on_lem : (r : Survey) (input : List ℕ) → r.course ≡ Goes → Stands r.course r.processor r.kept input → Going r.processor r.kept input
-goes_on_lem r input e s = subst (λ (x : Course). Stands x r.processor r.kept input) e s
+  pub going_carried : (held : List ℕ) (t : Survey) (input' : List ℕ) → CarriedPost s.processor held (Ok t) input' → Going t input'
+  going_carried held t input' h =
+      let x = h.left g.sweep g.made in
+      record { sweep = x.1.next; made = x.1.made; inside = h.inside; past = x.0 }

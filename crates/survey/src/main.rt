@@ -8,132 +8,95 @@ ghost use Rattle.std.specs.Prelude.{◌≤◌, length};
 ghost use Rattle.ends.specs.Ends.{LinePast};
 ghost use Rattle.survey.specs.Post.{Going, Stands, ReadPost};
 
-use carrying::{Course, Survey, TURNS, carried, ended, fail, more, print, report};
+use carrying::{Stop, Survey, carried, more, print};
 use lines::{Scan, Scanned};
-use processor::{Processor, idle};
-use std::io;
-use std::io::ErrorKind;
+use processor::idle;
+use std::io::{ErrorKind, Read};
 use steps::{Step, rest_step};
 
-// A read gave bytes more, or nothing as a signal interrupted it; or the input is at its end; or the read failed.
-#[derive(Clone, Copy)]
-enum Came {
-    More,
-    End,
-    Nothing,
-    Failed,
-}
-
-// What a read gave, and how many bytes of the input buffer are in use then.
-#[derive(Clone, Copy)]
-struct Read {
-    came: Came,
-    n: usize,
-}
-
-// Why a read gave nothing. A failure is reported.
-fn unread(rt: &impl Eprint, error: &io::Error) -> Came {
-    if error.kind() == ErrorKind::Interrupted {
-        return Came::Nothing;
-    }
-    fail(rt, "cannot read", error);
-    Came::Failed
-}
-
-// Reads once, behind the bytes kept.
-fn read_more(rt: &impl Eprint, source: &mut impl io::Read, input: &mut [u8], kept: usize) -> Read
+// Reads once, behind the bytes kept. Answers how many bytes of the input buffer are in use then, as many as before where a signal interrupts the
+// read; none at the end of the input.
+fn read_more(source: &mut impl Read, input: &mut [u8], kept: usize) -> Result<Option<usize>, Stop>
     requires { kept ≤ length input.old }
     ensures { ReadPost kept input.old result input.new }
 {
     match source.read(&mut input[kept..]) {
-        Err(error) => Read {
-            came: unread(rt, &error),
-            n: kept,
-        },
-        Ok(0) => Read {
-            came: Came::End,
-            n: kept,
-        },
-        Ok(got) => Read {
-            came: Came::More,
-            n: kept + got,
-        },
+        Ok(0) => Ok(None),
+        Ok(got) => Ok(Some(kept + got)),
+        Err(error) if error.kind() == ErrorKind::Interrupted => Ok(Some(kept)),
+        Err(error) => Err(Stop::CannotRead(error)),
     }
 }
 
 // What is left of the input at its end has no newline: it is refused.
-fn last(rt: &(impl Print + Eprint), p: Processor, used: u64, rest: &[u8], output: &mut [u8])
+fn last(rt: &impl Print, s: Survey, rest: &[u8], output: &mut [u8]) -> Result<(), Stop>
     requires { LinePast rest.now 0 }
 {
     let n = rest.len();
     if n == 0 {
-        return;
+        return Ok(());
     }
-    let how = rest_step(output, 0);
-    let Step::Stops(number, at) = how else {
-        return;
+    let Step::Stops(number, at) = rest_step(output, 0) else {
+        return Ok(());
     };
     let r = Scanned {
         scan: Scan::Stopped(number),
-        processor: p,
+        processor: s.processor,
         from: n,
         at,
     };
-    if print(rt, p, rest, 0, true, r, &output[..at]) {
-        report(rt, number, more(used, n));
-    }
+    print(rt, s.processor, rest, 0, true, r, &output[..at])?;
+    Err(Stop::Refused(number, more(s.used, n)))
 }
 
-// Carries out what a read gave.
+// Carries out what a read gives; none goes on from the end of the input.
 fn turn(
-    rt: &(impl Print + Eprint),
-    source: &mut impl io::Read,
+    rt: &impl Print,
+    source: &mut impl Read,
     s: Survey,
     input: &mut [u8],
     output: &mut [u8],
-) -> Survey
-    requires { Going s.processor s.kept input.old }
-    ensures { Stands result.course result.processor result.kept input.new }
+) -> Result<Option<Survey>, Stop>
+    requires { Going s input.old }
+    ensures { Stands result input.new }
 {
-    let r = read_more(rt, source, input, s.kept);
-    let came = r.came;
-    let n = r.n;
-    match came {
-        Came::More => carried(rt, s, input, n, output),
-        Came::End => {
-            last(rt, s.processor, s.used, &input[..n], output);
-            ended(Course::Over, s.processor)
-        }
-        Came::Nothing => s,
-        Came::Failed => ended(Course::Failed, s.processor),
-    }
+    let Some(n) = read_more(source, input, s.kept)? else {
+        last(rt, s, &input[..s.kept], output)?;
+        return Ok(None);
+    };
+    let next = carried(rt, s, input, n, output)?;
+    Ok(Some(next))
 }
 
+// Nothing says that the input ends, so the loop has a count that no run uses up.
 fn run(
-    rt: &(impl Print + Eprint),
-    source: &mut impl io::Read,
+    rt: &impl Print,
+    source: &mut impl Read,
     input: &mut [u8],
     output: &mut [u8],
-) {
+) -> Result<(), Stop> {
     let mut s = Survey {
-        course: Course::Goes,
         processor: idle(),
         kept: 0,
         used: 0,
     };
-    let mut turns = TURNS;
-    while turns > 0 {
-        let course = s.course;
-        let Course::Goes = course else {
-            return;
+    for _ in 0..u64::MAX {
+        let Some(next) = turn(rt, source, s, input, output)? else {
+            return Ok(());
         };
-        s = turn(rt, source, s, input, output);
-        turns -= 1;
+        s = next;
     }
+    Ok(())
 }
 
+// Of a reader that went away nothing is said.
 fn main(rt: HostRuntime) {
-    let mut input = [0u8; 65536];
-    let mut output = [0u8; 65536];
-    run(&rt, &mut rt.stdin(), &mut input, &mut output);
+    let mut input = [0; 65536];
+    let mut output = [0; 65536];
+    match run(&rt, &mut rt.stdin(), &mut input, &mut output) {
+        Ok(()) | Err(Stop::Unread) => {}
+        Err(stop) => {
+            let _ = eprintln!(rt; "{stop}");
+        }
+    }
 }

@@ -29,12 +29,14 @@ mod outcome_bytes;
 
 ghost use Rattle.std.specs.Prelude.{◌≤◌, length};
 
-use calls::{Answer, Closed, Answered};
+use calls::Answer;
 use outcome_bytes::{put_answer, put_processor, put_totals};
 use processor::Processor;
 use rules::{Opening, Totals};
-use std::io;
-use std::io::ErrorKind;
+use std::error::Error;
+use std::fmt;
+use std::io::{ErrorKind, Read};
+use std::ops::Range;
 
 // Samples in a recording.
 const RECORDED: usize = 8192;
@@ -43,305 +45,251 @@ const RECORDED: usize = 8192;
 const TOLD: usize = 968;
 
 // Bytes of an outcome with the longest buffer, of 2,048.
-const OUTCOME: usize = 3016;
+const OUTCOME: usize = TOLD + 2048;
+
+// Why nothing more is carried out.
+#[derive(Clone, Copy, Debug)]
+enum Fault {
+    NoEnd,
+    Shown,
+    Samples,
+    Kind,
+    OpenLent,
+    Lent,
+    FlagsBeyond,
+    ValuesBeyond,
+    WithinFlags,
+    WithinValues,
+    Unwritten,
+    // A reader that went away.
+    Unread,
+}
+
+impl fmt::Display for Fault {
+    fn fmt<W: fmt::Write>(&self, f: &mut fmt::Formatter<W>) -> fmt::Result {
+        f.write_str(match self {
+            Fault::NoEnd => "the input ends without its end",
+            Fault::Shown => "a processor is shown or not, by 1 or 0",
+            Fault::Samples => "samples belong to a take",
+            Fault::Kind => "an unknown kind of call",
+            Fault::OpenLent => "an open is lent no buffer",
+            Fault::Lent => "a lent buffer is over 2048 bytes",
+            Fault::FlagsBeyond => "flags reach beyond their recording",
+            Fault::ValuesBeyond => "values reach beyond their recording",
+            Fault::WithinFlags => "the input ends within flags",
+            Fault::WithinValues => "the input ends within values",
+            Fault::Unwritten => "an outcome cannot be written",
+            Fault::Unread => "an outcome is read no more",
+        })
+    }
+}
+
+impl Error for Fault {}
+
+// ---- reading a call
+
+#[derive(Clone, Copy)]
+enum Kind {
+    End,
+    Open,
+    Take,
+    Close,
+}
+
+impl TryFrom<u8> for Kind {
+    type Error = Fault;
+
+    fn try_from(number: u8) -> Result<Kind, Fault> {
+        match number {
+            0 => Ok(Kind::End),
+            1 => Ok(Kind::Open),
+            2 => Ok(Kind::Take),
+            3 => Ok(Kind::Close),
+            _ => Err(Fault::Kind),
+        }
+    }
+}
+
+// Samples of a recording: where they start, and how many they are.
+#[derive(Clone, Copy)]
+struct Part {
+    start: u16,
+    count: u16,
+}
+
+impl Part {
+    fn range(self) -> Range<usize> {
+        let start = self.start as usize;
+        start..start + self.count as usize
+    }
+}
 
 // A call as it was read.
 #[derive(Clone, Copy)]
 struct Call {
-    kind: u8,
-    shown: u8,
-    mode: u8,
+    kind: Kind,
+    shown: bool,
+    opening: Opening,
     around: u8,
     fill: u8,
-    azimuth: u16,
-    flags_start: u16,
-    flags: u16,
-    values_start: u16,
-    values: u16,
+    flags: Part,
+    values: Part,
     lent: u16,
 }
 
-// The processor after a call, and whether a further call is to be read.
-#[derive(Clone, Copy)]
-struct Step {
-    going: bool,
-    processor: Processor,
-}
+impl TryFrom<[u8; 17]> for Call {
+    type Error = Fault;
 
-// ---- reading, and ending
-
-// Reads all of the bytes, or says that the input ended before.
-fn read_whole(source: &mut impl io::Read, bytes: &mut [u8]) -> bool {
-    source.read_exact(bytes).is_ok()
-}
-
-fn stop(p: Processor) -> Step {
-    Step {
-        going: false,
-        processor: p,
+    fn try_from(bytes: [u8; 17]) -> Result<Call, Fault> {
+        let number = |at: usize| u16::from_be_bytes([bytes[at], bytes[at + 1]]);
+        let shown = match bytes[1] {
+            0 => false,
+            1 => true,
+            _ => return Err(Fault::Shown),
+        };
+        let kind = Kind::try_from(bytes[0]);
+        let flags = Part {
+            start: number(7),
+            count: number(9),
+        };
+        let values = Part {
+            start: number(11),
+            count: number(13),
+        };
+        if !matches!(kind, Ok(Kind::Take)) && (flags.count != 0 || values.count != 0) {
+            return Err(Fault::Samples);
+        }
+        Ok(Call {
+            kind: kind?,
+            shown,
+            opening: Opening {
+                mode: bytes[2],
+                azimuth: number(5),
+            },
+            around: bytes[3],
+            fill: bytes[4],
+            flags,
+            values,
+            lent: number(15),
+        })
     }
-}
-
-// Why nothing more is carried out, on standard error.
-fn complain(rt: &impl Eprint, why: &str) {
-    let _ = eprintln!(rt; "calls: {why}");
-}
-
-fn give_up(rt: &impl Eprint, p: Processor, why: &str) -> Step {
-    complain(rt, why);
-    stop(p)
 }
 
 // ---- calls
 
-fn no_totals() -> Totals {
-    Totals {
-        found: 0,
-        replies: 0,
-        sidelobe: 0,
-        garbled: 0,
-        lost: 0,
-        phantoms: 0,
-    }
-}
-
-// The processor goes into the outcome if the call asks for it.
-fn put_shown(out: &mut [u8], shown: u8, p: Processor)
-    requires { 968 ≤ length out.old }
-{
-    if shown == 1 {
-        put_processor(out, p);
-    }
-}
-
-// Whether the first bytes of an outcome, `lent` bytes of the buffer among them, could be written. Of a reader that went away nothing is said.
-fn is_told(rt: &(impl Print + Eprint), out: &[u8], lent: usize) -> bool
-    requires { (lent ≤ 2048) × (3016 ≤ length out.now) }
-{
-    match rt.write_all(&out[0..TOLD + lent]) {
-        Ok(()) => true,
-        Err(error) => {
-            if error.kind() != ErrorKind::BrokenPipe {
-                complain(rt, "an outcome cannot be written");
-            }
-            false
-        }
-    }
-}
-
-// Writes the outcome of a call, `lent` bytes of the buffer among it.
+// Writes the outcome of a call; the lent buffer stands behind the first 968 bytes. The processor goes into it if the call asks for that.
 fn tell(
-    rt: &(impl Print + Eprint),
-    shown: u8,
+    rt: &impl Print,
+    shown: bool,
     answer: Answer,
-    totals: Totals,
+    totals: Option<Totals>,
     after: Processor,
     out: &mut [u8],
-    lent: usize,
-) -> Step
-    requires { (lent ≤ 2048) × (3016 ≤ length out.old) }
+) -> Result<(), Fault>
+    requires { 968 ≤ length out.old }
 {
     put_answer(out, answer);
     put_totals(out, totals);
-    put_shown(out, shown, after);
-    Step {
-        going: is_told(rt, out, lent),
-        processor: after,
+    if shown {
+        put_processor(out, after);
     }
+    rt.write_all(out).map_err(|error| match error.kind() {
+        ErrorKind::BrokenPipe => Fault::Unread,
+        _ => Fault::Unwritten,
+    })
 }
 
-// The step after an opening whose outcome is told by `s`: where it was refused, the processor stays.
-fn after_opening(before: Processor, answer: Answer, s: Step) -> Step {
-    match answer {
-        Ok(_) => s,
-        Err(_) => Step {
-            going: s.going,
-            processor: before,
-        },
-    }
-}
-
-fn make_open(rt: &(impl Print + Eprint), p: Processor, c: Call) -> Step {
+// Where an opening is refused, the processor stays.
+fn make_open(rt: &impl Print, p: Processor, c: Call) -> Result<Processor, Fault> {
     if c.lent != 0 {
-        return give_up(rt, p, "an open is lent no buffer");
+        return Err(Fault::OpenLent);
     }
-    let mut out = [c.fill; OUTCOME];
-    let o = sweep::open(Opening {
-        mode: c.mode,
-        azimuth: c.azimuth,
-    });
-    let answer = o.answer;
-    let s = tell(rt, c.shown, answer, no_totals(), o.processor, &mut out, 0);
-    after_opening(p, answer, s)
-}
-
-// A take that is lent the `lent` bytes behind what is told.
-fn take_in(p: Processor, flags: &[u8], values: &[u8], out: &mut [u8], lent: usize) -> Answered
-    requires { (lent ≤ 2048) × (3016 ≤ length out.old) }
-{
-    sweep::take(p, flags, values, &mut out[TOLD..TOLD + lent])
+    let mut out = [c.fill; TOLD];
+    let o = sweep::open(c.opening);
+    tell(rt, c.shown, o.answer, None, o.processor, &mut out)?;
+    match o.answer {
+        Ok(_) => Ok(o.processor),
+        Err(_) => Ok(p),
+    }
 }
 
 fn take_piece(
-    rt: &(impl Print + Eprint),
+    rt: &impl Print,
     p: Processor,
     c: Call,
     flags: &[u8],
     values: &[u8],
-) -> Step {
-    let lent = c.lent as usize;
-    if 2048 < lent {
-        return give_up(rt, p, "a lent buffer is over 2048 bytes");
-    }
-    let mut out = [c.fill; OUTCOME];
-    let t = take_in(p, flags, values, &mut out, lent);
-    let answer = t.answer;
-    tell(
-        rt,
-        c.shown,
-        answer,
-        no_totals(),
-        t.processor,
-        &mut out,
-        lent,
-    )
-}
-
-// The samples a to b of a recording are read, all of them.
-fn record(source: &mut impl io::Read, samples: &mut [u8], a: usize, b: usize) -> bool
-    requires { (a ≤ b) × (b ≤ length samples.old) }
-{
-    read_whole(source, &mut samples[a..b])
+) -> Result<Processor, Fault> {
+    let mut room = [c.fill; OUTCOME];
+    let out = room.get_mut(..TOLD + c.lent as usize).ok_or(Fault::Lent)?;
+    let t = sweep::take(p, flags, values, &mut out[TOLD..]);
+    tell(rt, c.shown, t.answer, None, t.processor, out)?;
+    Ok(t.processor)
 }
 
 // The samples go into the middle of two recordings, and the piece is a part of each.
 fn make_take(
-    rt: &(impl Print + Eprint),
-    source: &mut impl io::Read,
+    rt: &impl Print,
+    source: &mut impl Read,
     p: Processor,
     c: Call,
-) -> Step {
-    let a = c.flags_start as usize;
-    let b = a + c.flags as usize;
-    let d = c.values_start as usize;
-    let e = d + c.values as usize;
-    if RECORDED < b {
-        return give_up(rt, p, "flags reach beyond their recording");
-    }
-    if RECORDED < e {
-        return give_up(rt, p, "values reach beyond their recording");
-    }
-    let mut flags = [c.around; RECORDED];
-    let mut values = [c.around; RECORDED];
-    if !record(source, &mut flags, a, b) {
-        return give_up(rt, p, "the input ends within flags");
-    }
-    if !record(source, &mut values, d, e) {
-        return give_up(rt, p, "the input ends within values");
-    }
-    take_piece(rt, p, c, &flags[a..b], &values[d..e])
+) -> Result<Processor, Fault> {
+    let mut recorded_flags = [c.around; RECORDED];
+    let mut recorded_values = [c.around; RECORDED];
+    let flags = recorded_flags
+        .get_mut(c.flags.range())
+        .ok_or(Fault::FlagsBeyond)?;
+    let values = recorded_values
+        .get_mut(c.values.range())
+        .ok_or(Fault::ValuesBeyond)?;
+    source.read_exact(flags).map_err(|_| Fault::WithinFlags)?;
+    source.read_exact(values).map_err(|_| Fault::WithinValues)?;
+    take_piece(rt, p, c, flags, values)
 }
 
-// A close that is lent the `lent` bytes behind what is told.
-fn close_in(p: Processor, out: &mut [u8], lent: usize) -> Closed
-    requires { (lent ≤ 2048) × (3016 ≤ length out.old) }
-{
-    sweep::close(p, &mut out[TOLD..TOLD + lent])
+fn make_close(rt: &impl Print, p: Processor, c: Call) -> Result<Processor, Fault> {
+    let mut room = [c.fill; OUTCOME];
+    let out = room.get_mut(..TOLD + c.lent as usize).ok_or(Fault::Lent)?;
+    let t = sweep::close(p, &mut out[TOLD..]);
+    tell(rt, c.shown, t.answer, Some(t.totals), t.processor, out)?;
+    Ok(t.processor)
 }
 
-fn make_close(rt: &(impl Print + Eprint), p: Processor, c: Call) -> Step {
-    let lent = c.lent as usize;
-    if 2048 < lent {
-        return give_up(rt, p, "a lent buffer is over 2048 bytes");
-    }
-    let mut out = [c.fill; OUTCOME];
-    let t = close_in(p, &mut out, lent);
-    let answer = t.answer;
-    tell(rt, c.shown, answer, t.totals, t.processor, &mut out, lent)
-}
-
-// ---- reading a call
-
-fn joined(high: u8, low: u8) -> u16 {
-    256 * high as u16 + low as u16
-}
-
-fn number(b: &[u8; 17], at: usize) -> u16
-    requires { at ≤ 15 }
-{
-    joined(b[at], b[at + 1])
-}
-
-fn call_of(b: &[u8; 17]) -> Call {
-    Call {
-        kind: b[0],
-        shown: b[1],
-        mode: b[2],
-        around: b[3],
-        fill: b[4],
-        azimuth: number(b, 5),
-        flags_start: number(b, 7),
-        flags: number(b, 9),
-        values_start: number(b, 11),
-        values: number(b, 13),
-        lent: number(b, 15),
-    }
-}
-
-// Whether a call is one that can be carried out; says why not.
-fn is_call(rt: &impl Eprint, c: Call) -> bool {
-    if 1 < c.shown {
-        complain(rt, "a processor is shown or not, by 1 or 0");
-        return false;
-    }
-    if (c.kind != 2) & ((c.flags != 0) | (c.values != 0)) {
-        complain(rt, "samples belong to a take");
-        return false;
-    }
-    if 3 < c.kind {
-        complain(rt, "an unknown kind of call");
-        return false;
-    }
-    true
-}
-
-fn make_call(
-    rt: &(impl Print + Eprint),
-    source: &mut impl io::Read,
+// Carries out a call. The processor after it comes back; none at the end of the input.
+fn next_call(
+    rt: &impl Print,
+    source: &mut impl Read,
     p: Processor,
-    c: Call,
-) -> Step {
-    if !is_call(rt, c) {
-        return stop(p);
-    }
-    let kind = c.kind;
-    match kind {
-        1 => make_open(rt, p, c),
-        2 => make_take(rt, source, p, c),
-        3 => make_close(rt, p, c),
-        _ => stop(p),
+) -> Result<Option<Processor>, Fault> {
+    let mut bytes = [0; 17];
+    source.read_exact(&mut bytes).map_err(|_| Fault::NoEnd)?;
+    let c = Call::try_from(bytes)?;
+    match c.kind {
+        Kind::End => Ok(None),
+        Kind::Open => make_open(rt, p, c).map(Some),
+        Kind::Take => make_take(rt, source, p, c).map(Some),
+        Kind::Close => make_close(rt, p, c).map(Some),
     }
 }
 
-fn next_call(rt: &(impl Print + Eprint), source: &mut impl io::Read, p: Processor) -> Step {
-    let mut bytes = [0u8; 17];
-    if !read_whole(source, &mut bytes) {
-        return give_up(rt, p, "the input ends without its end");
-    }
-    make_call(rt, source, p, call_of(&bytes))
-}
-
-// Nothing says that the input ends, so the loop counts down from a number that no run uses up.
-fn main(rt: HostRuntime) {
-    let mut source = rt.stdin();
+// Nothing says that the input ends, so the loop has a count that no run uses up.
+fn run(rt: &impl Print, source: &mut impl Read) -> Result<(), Fault> {
     let mut p = processor::idle();
-    let mut turns = u64::MAX;
-    while 0 < turns {
-        let s = next_call(&rt, &mut source, p);
-        if !s.going {
-            return;
+    for _ in 0..u64::MAX {
+        let Some(next) = next_call(rt, source, p)? else {
+            return Ok(());
+        };
+        p = next;
+    }
+    Ok(())
+}
+
+// Of a reader that went away nothing is said.
+fn main(rt: HostRuntime) {
+    match run(&rt, &mut rt.stdin()) {
+        Ok(()) | Err(Fault::Unread) => {}
+        Err(fault) => {
+            let _ = eprintln!(rt; "calls: {fault}");
         }
-        p = s.processor;
-        turns -= 1;
     }
 }

@@ -1,181 +1,116 @@
 // The outcome of a call, as main.rt lays it down, at the start of a buffer of 968 bytes or more.
-ghost use Rattle.std.specs.Prelude.{◌+◌, ◌*◌, ◌≤◌, length};
+ghost use Rattle.std.specs.Prelude.{◌≤◌, length};
 
 use calls::Answer;
 use fields::bits_of;
 use front::words::Front;
 use processor::Processor;
+use replies::level_of;
 use rules::{Counts, Estimate, Place, Reply, Slot, Totals};
 
-// A number, 8 bytes from place `at` on.
-fn put(out: &mut [u8], at: usize, x: u64)
-    requires { at + 8 ≤ length out.old }
-{
-    let mut rest = x;
-    let mut i: usize = 8;
-    while 0 < i {
-        i -= 1;
-        out[at + i] = (rest % 256) as u8;
-        rest = rest / 256;
-    }
-}
-
-// Numbers, one behind the other.
-fn put_all(out: &mut [u8], at: usize, numbers: &[u64])
-    requires { at + 8 * length numbers.now ≤ length out.old }
-{
-    let mut i: usize = 0;
-    while i < numbers.len() {
-        put(out, at + 8 * i, numbers[i]);
-        i += 1;
+// Numbers, one behind the other, 8 bytes each.
+fn put_all(out: &mut [u8], numbers: &[u64]) {
+    let (words, _) = out.as_chunks_mut::<8>();
+    for (word, number) in words.iter_mut().zip(numbers) {
+        *word = number.to_be_bytes();
     }
 }
 
 pub fn put_answer(out: &mut [u8], answer: Answer)
     requires { 968 ≤ length out.old }
 {
-    match answer {
-        Ok(count) => {
-            put(out, 0, 1);
-            put(out, 8, count as u64);
-        }
-        Err(number) => {
-            put(out, 0, 2);
-            put(out, 8, number as u64);
-        }
-    }
+    let numbers = match answer {
+        Ok(count) => [1, count as u64],
+        Err(refusal) => [2, u64::from(u8::from(refusal))],
+    };
+    put_all(&mut out[0..16], &numbers);
 }
 
-pub fn put_totals(out: &mut [u8], t: Totals)
+// The six totals, or zeros.
+pub fn put_totals(out: &mut [u8], totals: Option<Totals>)
     requires { 968 ≤ length out.old }
 {
-    let numbers = [
-        t.found as u64,
-        t.replies as u64,
-        t.sidelobe as u64,
-        t.garbled as u64,
-        t.lost as u64,
-        t.phantoms as u64,
-    ];
-    put_all(out, 16, &numbers);
+    let numbers = match totals {
+        None => [0; 6],
+        Some(t) => [
+            u64::from(t.found),
+            u64::from(t.replies),
+            u64::from(t.sidelobe),
+            u64::from(t.garbled),
+            u64::from(t.lost),
+            u64::from(t.phantoms),
+        ],
+    };
+    put_all(&mut out[16..64], &numbers);
 }
 
-fn put_front(out: &mut [u8], f: Front)
-    requires { 968 ≤ length out.old }
-{
+fn put_front(out: &mut [u8], f: Front) {
     let words = [
         f.a, f.a1, f.p, f.p1, f.n, f.n1, f.l, f.l1, f.k, f.k1, f.h, f.h1, f.e, f.e1, f.e2, f.e3,
         f.m, f.m1, f.m2, f.m3,
     ];
-    put_all(out, 88, &words);
+    put_all(out, &words);
 }
 
-fn put_recent(out: &mut [u8], recent: [u8; 256])
-    requires { 968 ≤ length out.old }
-{
-    let mut i: usize = 0;
-    while i < 256 {
-        out[248 + i] = recent[i];
-        i += 1;
-    }
-}
-
-fn flag(on: bool) -> u64 {
-    if on { 1 } else { 0 }
-}
-
-fn is_average(e: Estimate) -> bool {
-    match e {
-        Estimate::Lone(_) => false,
-        Estimate::Average(_) => true,
-    }
-}
-
-fn level(e: Estimate) -> f64 {
-    match e {
-        Estimate::Lone(x) => x,
-        Estimate::Average(x) => x,
-    }
-}
-
-fn put_reply(out: &mut [u8], at: usize, r: Reply)
-    requires { (at ≤ 816) × (968 ≤ length out.old) }
-{
-    let q = r.f1;
+fn put_reply(out: &mut [u8], r: Reply) {
     let m = r.marks;
     let w = r.word;
     let f = r.reference;
-    let e = f.estimate;
-    let x = level(e);
     let numbers = [
         1,
-        q.0 as u64,
-        flag(m.suspect),
-        flag(m.military),
-        flag(m.second),
-        flag(m.main),
-        w.settled as u64,
-        w.code as u64,
-        w.unsure as u64,
-        flag(is_average(e)),
-        bits_of(x),
-        f.n as u64,
-        f.s as u64,
+        u64::from(r.f1.0),
+        u64::from(m.suspect),
+        u64::from(m.military),
+        u64::from(m.second),
+        u64::from(m.main),
+        u64::from(w.settled),
+        u64::from(w.code),
+        u64::from(w.unsure),
+        u64::from(matches!(f.estimate, Estimate::Average(_))),
+        bits_of(level_of(f.estimate)),
+        u64::from(f.n),
+        u64::from(f.s),
     ];
-    put_all(out, at, &numbers);
+    put_all(out, &numbers);
 }
 
-fn put_place(out: &mut [u8], at: usize, p: Place)
-    requires { (at ≤ 816) × (968 ≤ length out.old) }
-{
-    let s = p.slot;
-    match s {
-        Slot::Idle => {
-            let none = [0u64; 13];
-            put_all(out, at, &none);
-        }
-        Slot::Open(r) => put_reply(out, at, r),
+fn put_place(out: &mut [u8], p: Place) {
+    match p.slot {
+        Slot::Idle => put_all(out, &[0; 13]),
+        Slot::Open(r) => put_reply(out, r),
     }
 }
 
-fn put_places(out: &mut [u8], p: [Place; 4])
-    requires { 968 ≤ length out.old }
-{
-    put_place(out, 504, p[0]);
-    put_place(out, 608, p[1]);
-    put_place(out, 712, p[2]);
-    put_place(out, 816, p[3]);
+// The places, 104 bytes each.
+fn put_places(out: &mut [u8], places: [Place; 4]) {
+    for (bytes, p) in out.chunks_exact_mut(104).zip(places) {
+        put_place(bytes, p);
+    }
 }
 
-fn put_counts(out: &mut [u8], c: Counts)
-    requires { 968 ≤ length out.old }
-{
+fn put_counts(out: &mut [u8], c: Counts) {
     let numbers = [
-        c.found as u64,
-        c.opened as u64,
-        c.sidelobe as u64,
-        c.garbled as u64,
-        c.lost as u64,
-        c.phantoms as u64,
+        u64::from(c.found),
+        u64::from(c.opened),
+        u64::from(c.sidelobe),
+        u64::from(c.garbled),
+        u64::from(c.lost),
+        u64::from(c.phantoms),
     ];
-    put_all(out, 920, &numbers);
-}
-
-fn put_settings(out: &mut [u8], mode: u8, azimuth: u16, taken: u32)
-    requires { 968 ≤ length out.old }
-{
-    let settings = [mode as u64, azimuth as u64, taken as u64];
-    put_all(out, 64, &settings);
+    put_all(out, &numbers);
 }
 
 pub fn put_processor(out: &mut [u8], p: Processor)
     requires { 968 ≤ length out.old }
 {
-    put_settings(out, p.opening.mode, p.opening.azimuth, p.taken);
-    put_front(out, p.front);
-    let recent = p.recent;
-    put_recent(out, recent);
-    let places = p.places;
-    put_places(out, places);
-    put_counts(out, p.counts);
+    let settings = [
+        u64::from(p.opening.mode),
+        u64::from(p.opening.azimuth),
+        u64::from(p.taken),
+    ];
+    put_all(&mut out[64..88], &settings);
+    put_front(&mut out[88..248], p.front);
+    out[248..504].copy_from_slice(&p.recent);
+    put_places(&mut out[504..920], p.places);
+    put_counts(&mut out[920..968], p.counts);
 }

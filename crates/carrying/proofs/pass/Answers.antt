@@ -1,16 +1,8 @@
-use Rattle.steps.proofs.Answering.{part_length}
-use Rattle.carrying.proofs.Printing.{scan-prints, scan-passed}
-use Rattle.std.proofs.Common.{arith}
+use Rattle.carrying.proofs.Printing.{scan-prints, scan-passed, pass_fails}
 use Rattle.carrying.proofs.pass.Goals as goal
 
-pub slice_bounds-print-end : goal.slice_bounds-print-end
-slice_bounds-print-end g c = (omega (arith, c.scan_lines-r.ensures.inside (omega arith)))
-
-pub slice_bounds-print-end-2 : goal.slice_bounds-print-end-2
-slice_bounds-print-end-2 g c = part_length _ _ (omega (arith, c.scan_lines-r.ensures.inside (omega arith)))
-
-pub print-written-requires : goal.print-written-requires
-print-written-requires g c =
+pub print-requires : goal.print-requires
+print-requires g c =
     let a = c.args in
     let scan-lines = c.scan_lines-r in
     scan-prints a.p a.input.now a.from _ scan-lines.result _ scan-lines.ensures
@@ -18,4 +10,7 @@ print-written-requires g c =
 pub returns : goal.returns
 returns g c =
     let scan-lines = c.scan_lines-r in
-    scan-passed c.args.p c.args.input.now c.args.from _ scan-lines.result _ scan-lines.ensures c.requires c.print-written.result c.print-written.ensures
+    scan-passed c.args.p c.args.input.now c.args.from _ scan-lines.result _ scan-lines.ensures c.requires
+
+pub returns-in_err-print : goal.returns-in_err-print
+returns-in_err-print g c = pass_fails _ _ _ _ c.in_err-print.field-0.0 c.in_err-print.ensures.failing c.from_residual.ensures.1
