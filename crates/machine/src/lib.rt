@@ -123,7 +123,7 @@ pub fn work(
                     places[j] = heard(q, e, speaks(true, q, e.value), false);
                 }
             }
-            from = i + 1;
+            from = i.n + 1;
         }
         while !none_due(places[0], t) {
             let last = t.0 - 179;

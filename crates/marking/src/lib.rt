@@ -5,7 +5,7 @@ ghost use Rattle.std.specs.Prelude.{◌<◌, ◌≡◌, cond};
 ghost use Rattle.plane.specs.Words.{bit};
 ghost use Rattle.marking.specs.Marks.{with_word_lem, without_word_lem, AnyWord, TwiceWord, which_in, last_in, behind_of};
 
-use plane::marked;
+use plane::{Nth, marked};
 
 // A word of ticks for each of the four places.
 #[derive(Clone, Copy)]
@@ -64,18 +64,16 @@ pub fn twice(w: Words) -> u64
 }
 
 // The one place whose word marks tick i. By arithmetic: a branch on it would not be foreseen.
-pub fn which(w: Words, i: u32) -> usize
-    requires { i < 64 }
-    ensures is { result ≡ which_in w i }
+pub fn which(w: Words, i: Nth) -> usize
+    ensures is { result ≡ which_in w i.n }
     ensures below { result < 4 }
 {
     usize::from(marked(w.b | w.d, i)) + 2 * usize::from(marked(w.c | w.d, i))
 }
 
 // The last of the places whose word marks tick i, if one does. Where none does, one test says so.
-pub fn last_marked(w: Words, i: u32) -> Option<usize>
-    requires { i < 64 }
-    ensures { result ≡ last_in w i }
+pub fn last_marked(w: Words, i: Nth) -> Option<usize>
+    ensures { result ≡ last_in w i.n }
 {
     if !marked(any_word(w), i) {
         return None;

@@ -7,7 +7,7 @@ ghost use Rattle.outcomes.specs.Outcomes.{OutcomePost, phantom_more_lem, counted
 use firsts::{Firsts, any_hides};
 use marking::{Words, any_word, last_marked};
 use places::tallied;
-use plane::marked;
+use plane::{Nth, marked};
 use replies::plus;
 use rules::{Counts, Fate, Pulse, Tick};
 
@@ -26,14 +26,13 @@ pub fn outcome_of(
     f: Firsts,
     on: Words,
     risk: Words,
-    i: u32,
+    i: Nth,
     e: Pulse,
     w: Tick,
     main: bool,
     busy: bool,
 ) -> Outcome
-    requires { i < 64 }
-    ensures { OutcomePost f on risk i e w.0 main busy result }
+    ensures { OutcomePost f on risk i.n e w.0 main busy result }
 {
     // 1. Neither framing pulse has M.
     if !(e.main | main) {
