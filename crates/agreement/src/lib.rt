@@ -8,7 +8,7 @@ ghost use Rattle.places.specs.Places.{test};
 ghost use Rattle.agreement.specs.Voices.{covers_in, agreement_by};
 
 use marking::Words;
-use plane::marked;
+use plane::{Nth, marked};
 use replies::{level_of, near};
 use rules::{Place, Slot};
 
@@ -35,9 +35,8 @@ pub struct Agreement {
     pub other: [bool; 4],
 }
 
-pub fn agreement_of(p: [Place; 4], on: Words, i: u32, v: u8) -> Agreement
-    requires { i < 64 }
-    ensures { result ≡ agreement_by v (covers_in on i) p }
+pub fn agreement_of(p: [Place; 4], on: Words, i: Nth, v: u8) -> Agreement
+    ensures { result ≡ agreement_by v (covers_in on i.n) p }
 {
     let covers = [
         marked(on.a, i),

@@ -6,6 +6,8 @@ use mathlib.Core.Bool.{Bool, true, false, ◌||◌, cond}
 use mathlib.Core.List.{List, [], ◌∷◌, ◌++◌, append_assoc}
 use lib.Dec.{ltb}
 use lib.ListN.{length, get_or}
+use Rattle.std.specs.Prelude.{Some}
+use Rattle.std.proofs.lemmas.Option.{none-some, same_Some}
 use Rattle.rules.specs.declared.Reply.{Reply}
 use Rattle.rules.specs.declared.Place.{Place}
 use Rattle.rules.specs.declared.Pulse.{Pulse}
@@ -101,19 +103,18 @@ module _ (p : Reply → Bool) where
   count_there (r ∷ s) (suc k) h = count-cond (p r) r (filter p (removed k s)) (filter p s) (count_there s k h)
 
   -- the last that passes does
-  last_by : (s : List Reply) (a b c d : Bool) → a ≡ test p (place_at 0 s) → b ≡ test p (place_at 1 s) → c ≡ test p (place_at 2 s) → d ≡ test p (place_at 3 s) → last_of a b c d < 4
-      → test p (place_at (last_of a b c d) s) ≡ true
-  last_by s a b c true ea eb ec ed h = sym ed
-  last_by s a b true false ea eb ec ed h = sym ec
-  last_by s a true false false ea eb ec ed h = sym eb
-  last_by s true false false false ea eb ec ed h = sym ea
-  last_by s false false false false ea eb ec ed h = absurd (omega arith)
+  last_by : (s : List Reply) (a b c d : Bool) → a ≡ test p (place_at 0 s) → b ≡ test p (place_at 1 s) → c ≡ test p (place_at 2 s) → d ≡ test p (place_at 3 s) → (k : ℕ) → last_of a b c d ≡ Some k
+      → test p (place_at k s) ≡ true
+  last_by s a b c true ea eb ec ed k h = ap (λ (n : ℕ). test p (place_at n s)) (sym (same_Some 3 k h)) ∙ sym ed
+  last_by s a b true false ea eb ec ed k h = ap (λ (n : ℕ). test p (place_at n s)) (sym (same_Some 2 k h)) ∙ sym ec
+  last_by s a true false false ea eb ec ed k h = ap (λ (n : ℕ). test p (place_at n s)) (sym (same_Some 1 k h)) ∙ sym eb
+  last_by s true false false false ea eb ec ed k h = ap (λ (n : ℕ). test p (place_at n s)) (sym (same_Some 0 k h)) ∙ sym ea
+  last_by s false false false false ea eb ec ed k h = absurd (none-some k h)
 
-  pub last_there : (l : List Place) (s : List Reply) (k : ℕ) → four l ≡ placed s → k ≡ last_on p l → k < 4 → test p (place_at k s) ≡ true
-  last_there l s k e ek h =
+  pub last_there : (l : List Place) (s : List Reply) (k : ℕ) → four l ≡ placed s → last_on p l ≡ Some k → test p (place_at k s) ≡ true
+  last_there l s k e h =
       let t : (j : ℕ) → j < 4 → test p (get_or l j idle) ≡ test p (place_at j s) = λ j lj. ap (test p) (at_place l s e j lj) in
-      ap (λ (n : ℕ). test p (place_at n s)) ek
-      ∙ last_by s (test p (get_or l 0 idle)) (test p (get_or l 1 idle)) (test p (get_or l 2 idle)) (test p (get_or l 3 idle)) (t 0 (omega arith)) (t 1 (omega arith)) (t 2 (omega arith)) (t 3 (omega arith)) (omega (arith, ek, h))
+      last_by s (test p (get_or l 0 idle)) (test p (get_or l 1 idle)) (test p (get_or l 2 idle)) (test p (get_or l 3 idle)) (t 0 (omega arith)) (t 1 (omega arith)) (t 2 (omega arith)) (t 3 (omega arith)) k h
 
 -- ---- the list stays in order
 

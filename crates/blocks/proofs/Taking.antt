@@ -5,9 +5,8 @@ use mathlib.Core.Logic.{◌⊎◌, inl, inr}
 use mathlib.Core.Path.{◌≡◌, refl, sym, ap, ◌∙◌, subst}
 use mathlib.Core.Bool.{Bool, true, false, not, ◌&&◌, ◌||◌, cond}
 use mathlib.Core.List.{List, [], ◌∷◌}
-use lib.Dec.{ltb}
 use lib.ListN.{length, get_or, set, length-set}
-use borrow.Author.Tests.{ltb-true, lt-ltb}
+use Rattle.std.specs.Prelude.{None}
 use Rattle.rules.specs.declared.Reply.{Reply}
 use Rattle.rules.specs.declared.Slot.{Slot}
 use Rattle.rules.specs.declared.Slot.TheVariants.{Idle, Open}
@@ -32,8 +31,8 @@ use Rattle.marking.proofs.Marking.{with_marked}
 use Rattle.firsts.specs.declared.Firsts.{Firsts}
 use Rattle.outcomes.specs.declared.Outcome.{Outcome}
 use Rattle.firsts.specs.Ticks.{firsts_of_lem, Early, AllEarly, BusyPost, OpenedPost, FreePost, free_on}
-use Rattle.outcomes.specs.Outcomes.{outcome_by, clear_in, OutcomePost, removed_by_lem, is_opening, counted_by, is_opens}
-use Rattle.outcomes.proofs.Outcomes.{any_last, fate_as, opens_as, removes_as, fate-in}
+use Rattle.outcomes.specs.Outcomes.{outcome_by, clear_in, OutcomePost, removed_by, is_opening, counted_by, is_opens}
+use Rattle.outcomes.proofs.Outcomes.{none_last, fate_as, opens_as, stays_as, fate-in}
 use Rattle.settling.specs.Deals.{DealPost}
 use Rattle.processor.specs.Arrays.{machine_in}
 
@@ -140,11 +139,11 @@ pub record Bracketed (l : List Place) (on risk : Words) (c : Counts) (i : ℕ) (
       → AllMarked t on' risk' m × (machine_in m c' ≡ bracket_on wrapped e f2 (machine_in l c))
 
 module _ (l : List Place) (on risk : Words) (c : Counts) (i : ℕ) (e f2 : Pulse) (s : length l ≡ 4) (li : i < 64) (lw : f2.tick.0 < 4294967296) (f : Firsts) (ef : f ≡ firsts_of_lem l) (busy : Bool) (bp : BusyPost f busy)
-    (y : Outcome) (op : OutcomePost f on risk i e f2.tick.0 f2.main busy y) (k : ℕ) (ek : k ≡ removed_by_lem y) (stay : k < 4 → ⊥) (n : Counts) (en : n ≡ counted_by y c) (o : Bool) (eo : o ≡ is_opening y) where
+    (y : Outcome) (op : OutcomePost f on risk i e f2.tick.0 f2.main busy y) (stay : removed_by y ≡ None) (n : Counts) (en : n ≡ counted_by y c) where
   -- the outcome is the fate of the rules, and no phantom is left
   record Fated : Type 0 where
     counts : n ≡ tally wrapped (fate_in e f2 (four l)) 0 c
-    opening : o ≡ is_opens (fate_in e f2 (four l))
+    opening : is_opening y ≡ is_opens (fate_in e f2 (four l))
     spares : Spares e f2 l
 
   fated : (t : ℕ) → AllMarked t on risk l → t + i ≡ e.tick.0 + 242 → AllEarly f2.tick.0 l → Fated
@@ -156,33 +155,23 @@ module _ (l : List Place) (on risk : Words) (c : Counts) (i : ℕ) (e f2 : Pulse
       let clear = clear_in e f2.tick.0 f2.main l in
       let is : y ≡ outcome_by main K clear busy = op.at l ef early (h.cover i u li z) (h.phantom i u li z) in
       let b : busy ≡ test always (get_or l 3 idle) = bp.at l f2.tick.0 lw early ef in
-      let none : main ≡ true → K < 4 → ⊥ = λ m lk. stay (omega (arith, ek ∙ ap removed_by_lem is ∙ removes_as main clear busy K ∙ kept m lk, lk)) in
+      let none : main ≡ true → K ≡ None = λ m. stays_as clear busy K (sym (ap removed_by (is ∙ ap (λ (b : Bool). outcome_by b K clear busy) m)) ∙ stay) in
       let F : fate_by main clear busy ≡ fate_in e f2 (four l) = ap (fate_by main clear) b ∙ fate-in e f2 l in
       record {
         counts = en ∙ ap (λ (x : Outcome). counted_by x c) is ∙ fate_as main clear busy K none c ∙ ap (λ (x : Fate). tally wrapped x 0 c) F;
-        opening = eo ∙ ap is_opening is ∙ opens_as main clear busy K none ∙ ap is_opens F;
+        opening = ap is_opening is ∙ opens_as main clear busy K none ∙ ap is_opens F;
         spares = spare none main refl;
       }
     where
-      kept : (e.main || f2.main) ≡ true → last_on (is_phantom e.tick.0) l < 4
-          → cond (e.main || f2.main) (cond (ltb (last_on (is_phantom e.tick.0) l) 4) (last_on (is_phantom e.tick.0) l) 4) 4 ≡ last_on (is_phantom e.tick.0) l
-      kept m lk = rw (m, lt-ltb (last_on (is_phantom e.tick.0) l) 4 lk)
-
-      spare : ((e.main || f2.main) ≡ true → last_on (is_phantom e.tick.0) l < 4 → ⊥) → (m : Bool) → (e.main || f2.main) ≡ m → Spares e f2 l
+      spare : ((e.main || f2.main) ≡ true → last_on (is_phantom e.tick.0) l ≡ None) → (m : Bool) → (e.main || f2.main) ≡ m → Spares e f2 l
       spare none false em = inr em
-      spare none true em = inl (go (ltb (last_on (is_phantom e.tick.0) l) 4) refl)
-        where
-          t0 : Bool
-          t0 = test (is_phantom e.tick.0) (get_or l 0 idle)
-
-          go : (b : Bool) → ltb (last_on (is_phantom e.tick.0) l) 4 ≡ b → any_in (is_phantom e.tick.0) (four l) ≡ false
-          go true q = absurd (none em (ltb-true (last_on (is_phantom e.tick.0) l) 4 q))
-          go false q =
-              any_last (test (is_phantom e.tick.0) (get_or l 0 idle)) (test (is_phantom e.tick.0) (get_or l 1 idle)) (test (is_phantom e.tick.0) (get_or l 2 idle))
-              (test (is_phantom e.tick.0) (get_or l 3 idle)) ∙ q
+      spare none true em =
+          inl
+          (none_last (test (is_phantom e.tick.0) (get_or l 0 idle)) (test (is_phantom e.tick.0) (get_or l 1 idle)) (test (is_phantom e.tick.0) (get_or l 2 idle))
+          (test (is_phantom e.tick.0) (get_or l 3 idle)) (none em))
 
   -- no reply opens
-  pub bracketed_shut : o ≡ false → Bracketed l on risk c i e f2 l on risk n
+  pub bracketed_shut : is_opening y ≡ false → Bracketed l on risk c i e f2 l on risk n
   bracketed_shut ho =
       record {
         size = refl;
@@ -194,7 +183,7 @@ module _ (l : List Place) (on risk : Words) (c : Counts) (i : ℕ) (e f2 : Pulse
       }
 
   -- one opens
-  pub bracketed_opens : o ≡ true → (r : Reply) → OpenedPost f on i e f2 r → (j : ℕ) → FreePost f j → j < 4 → (cv ph : ℕ) → ((q t : ℕ) → t + i ≡ q + 242 → CoverMask q t cv)
+  pub bracketed_opens : is_opening y ≡ true → (r : Reply) → OpenedPost f on i e f2 r → (j : ℕ) → FreePost f j → j < 4 → (cv ph : ℕ) → ((q t : ℕ) → t + i ≡ q + 242 → CoverMask q t cv)
       → ((q t : ℕ) → t + i ≡ q + 242 → PhantomMask q r.marks.suspect t ph) → (on' risk' : Words) → on' ≡ with_word_lem j cv on → risk' ≡ with_word_lem j ph risk
       → (m : List Place) → m ≡ set l j (record { slot = Open r }) → Bracketed l on risk c i e f2 m on' risk' n
   bracketed_opens ho r opened j fr lj cv ph mc mp on' risk' eon erisk m em =

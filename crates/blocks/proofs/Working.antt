@@ -38,15 +38,17 @@ use Rattle.plane.specs.Words.{bit, Lowest}
 use Rattle.plane.proofs.BitLaws.{zero_bit}
 use Rattle.marking.specs.declared.Words.{Words}
 use Rattle.marking.specs.Marks.{four, AllMarked, without_word_lem, without_place, last_on}
+use Rattle.marking.proofs.Marking.{last_low}
 use Rattle.span.specs.declared.Span.{Span}
 use Rattle.front.specs.Post.{value_of}
 use Rattle.span.specs.Spans.{TopPost, pulse_in, bracket_in}
 use Rattle.span.proofs.Spans.{span-pulse, span-bracket}
 use Rattle.firsts.specs.declared.Firsts.{Firsts}
 use Rattle.outcomes.specs.declared.Outcome.{Outcome}
+use Rattle.outcomes.specs.declared.Outcome.TheVariants.{Removes}
 use Rattle.firsts.specs.Ticks.{firsts_of_lem, AllEarly}
-use Rattle.outcomes.specs.Outcomes.{outcome_by, clear_in, OutcomePost, removed_by_lem, counted_by, phantom_more_lem}
-use Rattle.outcomes.proofs.Outcomes.{removes_main}
+use Rattle.outcomes.specs.Outcomes.{outcome_by, clear_in, OutcomePost, counted_by, phantom_more_lem}
+use Rattle.outcomes.proofs.Outcomes.{removes_as}
 use Rattle.visits.specs.Visits.{Wanted}
 use Rattle.blocks.specs.Steps.{state_at, Shows, none_due_lem}
 use Rattle.blocks.specs.Leaving.{less_phantom}
@@ -272,7 +274,7 @@ module _ (m₀ : Machine) (s : Span) (r t : ℕ) (recent : List ℕ) (base : ℕ
 
       -- the bracket removes the phantom of place k
       module _ (f2 : Pulse) (eb : Some f2 ≡ bracket_in s i u recent base values) (f : Firsts) (ef : f ≡ firsts_of_lem ps) (busy : Bool) (y : Outcome) (op : OutcomePost f on risk i e f2.tick.0 f2.main busy y)
-          (k : ℕ) (ek : k ≡ removed_by_lem y) (lk : k < 4) (n : Counts) (en : n ≡ counted_by y c) where
+          (k : ℕ) (ek : y ≡ Removes k) (n : Counts) (en : n ≡ counted_by y c) where
         less : (T : Trace) (l : List Reply) → Block T l → (S : State) → Held T t todo S → machine_in ps c ≡ machine_of S
             → Written (state_at T (t - r - 178)).done S.done at₀ b₀ at b → (on' risk' : Words) (ps' : List Place) → on' ≡ without_word_lem k on → risk' ≡ without_word_lem k risk
             → ps' ≡ without_place k ps → AllMarked t on risk ps → At T todo b ps' on' risk' n at
@@ -286,15 +288,15 @@ module _ (m₀ : Machine) (s : Span) (r t : ℕ) (recent : List ℕ) (base : ℕ
             let clear = clear_in P f2.tick.0 f2.main ps in
             let said : y ≡ outcome_by main K clear busy =
             op'.at ps ef (v.early f2.tick.0 (bracket_late s i u recent base values f2 eb)) (mk.cover i P.tick.0 low.below z) (mk.phantom i P.tick.0 low.below z) in
-            let rk = ek ∙ ap removed_by_lem said in
-            let rm = removes_main main clear busy K c (omega (arith, rk, lk)) in
+            let rm = removes_as main clear busy K k (sym said ∙ ek) in
+            let lk = last_low (test (is_phantom P.tick.0) (get_or ps 0 idle)) (test (is_phantom P.tick.0) (get_or ps 1 idle)) (test (is_phantom P.tick.0) (get_or ps 2 idle)) (test (is_phantom P.tick.0) (get_or ps 3 idle)) k rm.1 in
             let there : test (is_phantom P.tick.0) (place_at k S.live) ≡ true =
-            last_there (is_phantom P.tick.0) ps S.live k (λ j. (is j).places) (rk ∙ rm.2) lk in
+            last_there (is_phantom P.tick.0) ps S.live k (λ j. (is j).places) rm.1 in
             let br : bracket_at (given standard T) u ≡ Some f2 =
             sym (eb ∙ span-bracket T s t g.shows.spanned recent base values g.shows.reads i u low.below v.at_u) in
             let ft = fits T g.shows.bounded u v.stood h.from S (h.next i u low v.at_u).0 h.sound in
             let ph : wrapped S.counts.phantoms 1 ≡ S.counts.phantoms + 1 = omega (arith, ft.counts.phantoms) in
-            let cs : n ≡ phantom_more_lem S.counts = en ∙ ap (λ (q : Outcome). counted_by q c) said ∙ rm.3 ∙ ap phantom_more_lem (λ j. (is j).counts) in
+            let cs : n ≡ phantom_more_lem S.counts = en ∙ ap (λ (q : Outcome). counted_by q c) ek ∙ ap phantom_more_lem (λ j. (is j).counts) in
             let more : phantom_more_lem S.counts ≡ (less_phantom k S).counts =
             (λ j. record {
               found = S.counts.found;

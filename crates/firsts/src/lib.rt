@@ -8,7 +8,7 @@ ghost use Rattle.firsts.specs.Ticks.{first_of, firsts_of_lem, Tells, AnyTells, N
 
 use marking::{Words, any_word};
 use places::opened_by;
-use plane::marked;
+use plane::{Nth, marked};
 use replies::{ended, military};
 use rules::{Place, Pulse, Reply, Slot, Tick};
 
@@ -94,9 +94,8 @@ fn inside(c: bool, q: Tick, u: Tick) -> bool
     c & (std::num::wrapping_sub_u64(u.0 as u64, q.0 as u64 + 2) < 201)
 }
 
-fn any_inside(f: Firsts, on: Words, i: u32, u: Tick) -> bool
-    requires { i < 64 }
-    ensures { AnyInsidePost f on i u.0 result }
+fn any_inside(f: Firsts, on: Words, i: Nth, u: Tick) -> bool
+    ensures { AnyInsidePost f on i.n u.0 result }
 {
     inside(marked(on.a, i), f.a, u)
         | inside(marked(on.b, i), f.b, u)
@@ -129,9 +128,8 @@ pub fn is_busy(f: Firsts) -> bool
 }
 
 // The reply that opens.
-pub fn opened(f: Firsts, on: Words, i: u32, e: Pulse, f2: Pulse) -> Reply
-    requires { i < 64 }
-    ensures { OpenedPost f on i e f2 result }
+pub fn opened(f: Firsts, on: Words, i: Nth, e: Pulse, f2: Pulse) -> Reply
+    ensures { OpenedPost f on i.n e f2 result }
 {
     let u = e.tick;
     opened_by(

@@ -7,6 +7,8 @@ use mathlib.Core.List.{List, [], ◌∷◌}
 use lib.Dec.{eqb}
 use lib.ListN.{get_or}
 use borrow.Author.Tests.{eqb-true}
+use Rattle.std.specs.Prelude.{Some}
+use Rattle.std.proofs.lemmas.Option.{none-some, same_Some}
 use Rattle.rules.specs.declared.Reply.{Reply}
 use Rattle.rules.specs.declared.Slot.{Slot}
 use Rattle.rules.specs.declared.Slot.TheVariants.{Idle, Open}
@@ -16,6 +18,7 @@ use Rattle.places.specs.Places.{test, test_slot, always, idle}
 use Rattle.plane.specs.Words.{bit}
 use Rattle.plane.proofs.BitLaws.{zero_bit}
 use Rattle.marking.specs.declared.Words.{Words}
+use Rattle.marking.proofs.Marking.{last_low}
 use Rattle.marking.specs.Marks.{without_word_lem, without_place, last_of, last_in}
 
 abbrev one : Bool → ℕ
@@ -81,16 +84,19 @@ has_bit x i h = go (eqb x 0) refl
 pub words-first : (w : Words) → word_count (without_word_lem 0 w) ≤ word_count w
 words-first w = omega arith
 
-pub words-less : (k i : ℕ) (w : Words) → k < 4 → k ≡ last_in w i → word_count (without_word_lem k w) < word_count w
-words-less k i w h e = go (bit w.a i) refl (bit w.b i) refl (bit w.c i) refl (bit w.d i) refl e
+pub words-less : (k i : ℕ) (w : Words) → last_in w i ≡ Some k → word_count (without_word_lem k w) < word_count w
+words-less k i w e = go (bit w.a i) refl (bit w.b i) refl (bit w.c i) refl (bit w.d i) refl e
   where
-    go : (a : Bool) → bit w.a i ≡ a → (b : Bool) → bit w.b i ≡ b → (c : Bool) → bit w.c i ≡ c → (d : Bool) → bit w.d i ≡ d → k ≡ last_of a b c d
+    less : (n : ℕ) → Some n ≡ Some k → word_count (without_word_lem n w) < word_count w → word_count (without_word_lem k w) < word_count w
+    less n z = subst (λ (m : ℕ). word_count (without_word_lem m w) < word_count w) (same_Some n k z)
+
+    go : (a : Bool) → bit w.a i ≡ a → (b : Bool) → bit w.b i ≡ b → (c : Bool) → bit w.c i ≡ c → (d : Bool) → bit w.d i ≡ d → last_of a b c d ≡ Some k
         → word_count (without_word_lem k w) < word_count w
-    go a ea b eb c ec true ed z = subst (λ (n : ℕ). word_count (without_word_lem n w) < word_count w) (sym z) (omega (arith, has_bit w.d i ed))
-    go a ea b eb true ec false ed z = subst (λ (n : ℕ). word_count (without_word_lem n w) < word_count w) (sym z) (omega (arith, has_bit w.c i ec))
-    go a ea true eb false ec false ed z = subst (λ (n : ℕ). word_count (without_word_lem n w) < word_count w) (sym z) (omega (arith, has_bit w.b i eb))
-    go true ea false eb false ec false ed z = subst (λ (n : ℕ). word_count (without_word_lem n w) < word_count w) (sym z) (omega (arith, has_bit w.a i ea))
-    go false ea false eb false ec false ed z = absurd (omega arith)
+    go a ea b eb c ec true ed z = less 3 z (omega (arith, has_bit w.d i ed))
+    go a ea b eb true ec false ed z = less 2 z (omega (arith, has_bit w.c i ec))
+    go a ea true eb false ec false ed z = less 1 z (omega (arith, has_bit w.b i eb))
+    go true ea false eb false ec false ed z = less 0 z (omega (arith, has_bit w.a i ea))
+    go false ea false eb false ec false ed z = absurd (none-some k z)
 
 -- ---- both, and the edges that are left
 
@@ -106,10 +112,11 @@ turn-over p from l l' w w' h el ew =
     subst (λ (m : List Place). turns_left from m w' < turns_left from l w) (sym el)
     (subst (λ (v : Words). turns_left from (without_place 0 l) v < turns_left from l w) (sym ew) (omega (arith, open-first p l h, words-first w)))
 
-pub turn-less : (k i from : ℕ) (l l' : List Place) (w w' : Words) → k < 4 → k ≡ last_in w i → l' ≡ without_place k l → w' ≡ without_word_lem k w → turns_left from l' w' < turns_left from l w
-turn-less k i from l l' w w' lk e el ew =
+pub turn-less : (k i from : ℕ) (l l' : List Place) (w w' : Words) → last_in w i ≡ Some k → l' ≡ without_place k l → w' ≡ without_word_lem k w → turns_left from l' w' < turns_left from l w
+turn-less k i from l l' w w' e el ew =
+    let lk = last_low (bit w.a i) (bit w.b i) (bit w.c i) (bit w.d i) k e in
     subst (λ (m : List Place). turns_left from m w' < turns_left from l w) (sym el)
-    (subst (λ (v : Words). turns_left from (without_place k l) v < turns_left from l w) (sym ew) (omega (arith, open-left k l lk, words-less k i w lk e)))
+    (subst (λ (v : Words). turns_left from (without_place k l) v < turns_left from l w) (sym ew) (omega (arith, open-left k l lk, words-less k i w e)))
 
 pub hand_less : (p : Reply → Bool) (l l' : List Place) → test p (get_or l 0 idle) ≡ true → l' ≡ without_place 0 l → open_count l' < open_count l
 hand_less p l l' h el = subst (λ (m : List Place). open_count m < open_count l) (sym el) (open-first p l h)

@@ -2,8 +2,7 @@
 // The array of the four places is changed where it stands; one place goes by value into a function and comes back.
 #![tactic(auto)]
 
-ghost use Rattle.std.specs.Prelude.{◌+◌, ◌<◌, ◌≡◌, length};
-ghost use Rattle.places.specs.Places.{idle};
+ghost use Rattle.std.specs.Prelude.{◌+◌, ◌<◌, length};
 ghost use Rattle.blocks.specs.Feeding.{BlocksPost};
 
 use agreement::{agreement_of, speaks};
@@ -14,26 +13,13 @@ use front::words::advance;
 use handing::hand_one;
 use marking::{any_word, behind, twice, which, with_word, without_word};
 use masks::{open_cover, open_phantom};
-use outcomes::{counted, opens, outcome_of, removed_by};
+use outcomes::{Outcome, counted, outcome_of};
 use plane::{lowest, marked, without_lowest};
 use processor::{Progress, all_four};
 use rules::{Place, Slot, Tick};
 use settling::heard;
 use span::{above, has_bracket, second_main, span_of, tick_of, top};
 use visits::{edge_at, second_at, second_tick, wanted};
-
-// A place as it is, for another place in the array.
-fn kept(p: Place) -> Place
-    ensures { result ≡ p }
-{
-    p
-}
-
-fn idle_place() -> Place
-    ensures { result ≡ idle }
-{
-    Place { slot: Slot::Idle }
-}
 
 // The progress after the flags of a piece, which begins once `base` ticks are taken. At each visit replies that are over are handed out, then the bracket is
 // tried, if one stands there, then the edge goes to the places that cover it. Only a bracket opens a reply or removes one; behind it the ticks to visit are
@@ -81,12 +67,7 @@ pub fn work(
             let u = tick_of(t, i);
             if is_over(places[0], u) {
                 at = hand_one(places[0], u, out, at);
-                places = [
-                    kept(places[1]),
-                    kept(places[2]),
-                    kept(places[3]),
-                    idle_place(),
-                ];
+                places = [places[1], places[2], places[3], Place { slot: Slot::Idle }];
                 on = without_word(on, 0);
                 both = twice(on);
                 risk = without_word(risk, 0);
@@ -98,30 +79,31 @@ pub fn work(
                 let f = firsts_of(places);
                 let y = outcome_of(f, on, risk, i, e, w, second_main(s, i), is_busy(f));
                 counts = counted(y, counts);
-                let k = removed_by(y);
-                if k < 4 {
-                    places = [
-                        kept(places[behind(0, k)]),
-                        kept(places[behind(1, k)]),
-                        kept(places[behind(2, k)]),
-                        idle_place(),
-                    ];
-                    on = without_word(on, k);
-                    both = twice(on);
-                    risk = without_word(risk, k);
-                    continue;
-                }
-                if opens(y) {
-                    let f2 = second_at(s, i, u, recent, base, values);
-                    let reply = opened(f, on, i, e, f2);
-                    let marks = reply.marks;
-                    let j = free(f);
-                    places[j] = Place {
-                        slot: Slot::Open(reply),
-                    };
-                    on = with_word(on, j, open_cover(i));
-                    both = twice(on);
-                    risk = with_word(risk, j, open_phantom(i, marks.suspect));
+                match y {
+                    Outcome::Removes(k) => {
+                        places = [
+                            places[behind(0, k)],
+                            places[behind(1, k)],
+                            places[behind(2, k)],
+                            Place { slot: Slot::Idle },
+                        ];
+                        on = without_word(on, k);
+                        both = twice(on);
+                        risk = without_word(risk, k);
+                        continue;
+                    }
+                    Outcome::Opens => {
+                        let f2 = second_at(s, i, u, recent, base, values);
+                        let reply = opened(f, on, i, e, f2);
+                        let j = free(f);
+                        places[j] = Place {
+                            slot: Slot::Open(reply),
+                        };
+                        on = with_word(on, j, open_cover(i));
+                        both = twice(on);
+                        risk = with_word(risk, j, open_phantom(i, reply.marks.suspect));
+                    }
+                    Outcome::Sidelobe | Outcome::Garbled | Outcome::Lost => {}
                 }
                 todo = wanted(s, on, above(due, i));
             } else {
@@ -129,12 +111,10 @@ pub fn work(
             }
             if marked(both, i) {
                 let v = agreement_of(places, on, i, e.value);
-                let mut k: usize = 0;
-                while k < 4 {
+                for k in 0..4 {
                     if v.covers[k] {
                         places[k] = heard(places[k], e, v.own[k], v.other[k]);
                     }
-                    k += 1;
                 }
             } else {
                 if marked(any_word(on), i) {
@@ -143,17 +123,12 @@ pub fn work(
                     places[j] = heard(q, e, speaks(true, q, e.value), false);
                 }
             }
-            from = i + 1;
+            from = i.n + 1;
         }
         while !none_due(places[0], t) {
             let last = t.0 - 179;
             at = hand_one(places[0], Tick(last), out, at);
-            places = [
-                kept(places[1]),
-                kept(places[2]),
-                kept(places[3]),
-                idle_place(),
-            ];
+            places = [places[1], places[2], places[3], Place { slot: Slot::Idle }];
         }
     }
     Progress {

@@ -1,13 +1,14 @@
 -- Words of ticks: what is read from them, and that they stay those of the places.
-use Prim.Native.Nat.{ℕ, zero, suc, ◌+◌, ◌*◌, ◌/◌, ◌%◌, ◌^◌, ◌≤◌, ◌<◌}
+use Prim.Native.Nat.{ℕ, zero, suc, ◌+◌, ◌*◌, ◌<◌}
 use native.Mathlib.Omega.{arith}
 use mathlib.Core.Path.{◌≡◌, refl, sym, ap, ap₂, ◌∙◌}
 use mathlib.Core.Bool.{Bool, true, false, ◌&&◌, ◌||◌, cond}
 use mathlib.Core.List.{List, [], ◌∷◌}
 use lib.Bits.{bit_and, bit_or}
-use lib.Dec.{eqb}
+use mir.Val.{bool_byte}
 use lib.ListN.{length, set}
-use borrow.Author.Tests.{lt-ltb, le-ltb}
+use Rattle.std.specs.Prelude.{Some}
+use Rattle.std.proofs.lemmas.Option.{none-some, same_Some}
 use Rattle.rules.specs.declared.Reply.{Reply}
 use Rattle.rules.specs.declared.Place.{Place}
 use Rattle.plane.specs.Words.{bit}
@@ -15,7 +16,7 @@ use Rattle.plane.proofs.BitLaws.{bit-and, bit-or, zero_bit}
 use Rattle.places.specs.Places.{test, any_in}
 use Rattle.places.proofs.PlaceLaws.{any-four}
 use Rattle.marking.specs.declared.Words.{Words}
-use Rattle.marking.specs.Marks.{behind_of, four, Marked, with_word_lem, without_word_lem, without_place, AnyWord, any_at, two_at, TwiceWord, which_of, last_in, last_on}
+use Rattle.marking.specs.Marks.{four, Marked, with_word_lem, without_word_lem, without_place, AnyWord, any_at, two_at, TwiceWord, which_of, last_of, last_in, last_on}
 
 -- ---- the functions
 
@@ -45,19 +46,14 @@ twice_law w =
           ∙ ap₂ ◌||◌ x (bit-or (bit_and (bit_or w.a w.b) w.c) (bit_and (bit_or (bit_or w.a w.b) w.c) w.d) i ∙ ap₂ ◌||◌ y z);
     }
 
-two_way : (n : ℕ) → n < 2 → n ≡ cond (eqb n 1) 1 0
-two_way zero h = refl
-two_way (suc zero) h = refl
-two_way (suc (suc n)) h = absurd (omega arith)
+as_digit : (b : Bool) → bool_byte b ≡ cond b 1 0
+as_digit true = refl
+as_digit false = refl
 
-pub digit_law : (x i : ℕ) → x / 2 ^ i % 2 ≡ cond (bit x i) 1 0
-unfolding bit
-digit_law x i = two_way (x / 2 ^ i % 2) (omega arith)
-
-pub which_law : (b c d i x y : ℕ) → x ≡ cond (bit (bit_or b d) i) 1 0 → y ≡ cond (bit (bit_or c d) i) 1 0 → x + 2 * y ≡ which_of (bit b i) (bit c i) (bit d i)
+pub which_law : (b c d i : ℕ) (x y : Bool) → x ≡ bit (bit_or b d) i → y ≡ bit (bit_or c d) i → bool_byte x + 2 * bool_byte y ≡ which_of (bit b i) (bit c i) (bit d i)
 which_law b c d i x y ex ey =
-    let k = ex ∙ ap (λ (z : Bool). cond z 1 0) (bit-or b d i) in
-    let l = ey ∙ ap (λ (z : Bool). cond z 1 0) (bit-or c d i) in
+    let k = as_digit x ∙ ap (λ (z : Bool). cond z 1 0) (ex ∙ bit-or b d i) in
+    let l = as_digit y ∙ ap (λ (z : Bool). cond z 1 0) (ey ∙ bit-or c d i) in
     λ j. k j + 2 * l j
 
 -- ---- by the places
@@ -90,26 +86,10 @@ with_marked w i p (a ∷ []) h s k x y lt e = absurd (omega arith)
 with_marked w i p (a ∷ (b ∷ [])) h s k x y lt e = absurd (omega arith)
 with_marked w i p (a ∷ (b ∷ (c ∷ []))) h s k x y lt e = absurd (omega arith)
 
--- ---- by what the tests told
-
-pub behind-before : (j k : ℕ) → j < 3 → j < k → (j ≡ behind_of j k) × (j < 4)
-behind-before j k l e = (rw (lt-ltb j k e), omega arith)
-
-pub behind-after : (j k : ℕ) → j < 3 → k ≤ j → (j + 1 ≡ behind_of j k) × (j + 1 < 4)
-behind-after j k l e = (rw (le-ltb j k e), omega arith)
-
-module _ (w : Words) (i : ℕ) where
-  pub last_3 : bit w.d i ≡ true → 3 ≡ last_in w i
-  last_3 e = rw e
-
-  pub last_2 : bit w.d i ≡ false → bit w.c i ≡ true → 2 ≡ last_in w i
-  last_2 d' e = rw (d', e)
-
-  pub last_1 : bit w.d i ≡ false → bit w.c i ≡ false → bit w.b i ≡ true → 1 ≡ last_in w i
-  last_1 d' c' e = rw (d', c', e)
-
-  pub last_0 : bit w.d i ≡ false → bit w.c i ≡ false → bit w.b i ≡ false → bit w.a i ≡ true → 0 ≡ last_in w i
-  last_0 d' c' b' e = rw (d', c', b', e)
-
-  pub last_none : bit w.d i ≡ false → bit w.c i ≡ false → bit w.b i ≡ false → bit w.a i ≡ false → 4 ≡ last_in w i
-  last_none d' c' b' e = rw (d', c', b', e)
+-- the last that is marked is one of four
+pub last_low : (a b c d : Bool) (k : ℕ) → last_of a b c d ≡ Some k → k < 4
+last_low a b c true k h = let e = same_Some 3 k h in omega (arith, e)
+last_low a b true false k h = let e = same_Some 2 k h in omega (arith, e)
+last_low a true false false k h = let e = same_Some 1 k h in omega (arith, e)
+last_low true false false false k h = let e = same_Some 0 k h in omega (arith, e)
+last_low false false false false k h = absurd (none-some k h)

@@ -1,5 +1,5 @@
 -- What words of ticks say of the four places.
-use Rattle.std.specs.Prelude.{ℕ, ◌+◌, ◌*◌, ◌<◌, ◌≡◌, Bool, ◌&&◌, ◌||◌, cond, List, [], ◌∷◌, eqb, ltb, get_or}
+use Rattle.std.specs.Prelude.{ℕ, ◌+◌, ◌*◌, ◌<◌, ◌≡◌, Bool, ◌&&◌, ◌||◌, cond, List, [], ◌∷◌, Option, Some, None, eqb, ltb, get_or}
 use Rattle.rules.specs.declared.Reply.{Reply}
 use Rattle.rules.specs.declared.Place.{Place}
 use Rattle.places.specs.Four.{Places}
@@ -65,13 +65,13 @@ which_of b c d = cond (b || d) 1 0 + 2 * cond (c || d) 1 0
 abbrev pub which_in : Words → ℕ → ℕ
 which_in w i = which_of (bit w.b i) (bit w.c i) (bit w.d i)
 
--- the number of the last that is true, or 4
-abbrev pub last_of : Bool → Bool → Bool → Bool → ℕ
-last_of a b c d = cond d 3 (cond c 2 (cond b 1 (cond a 0 4)))
+-- the number of the last that is true, if one is
+abbrev pub last_of : Bool → Bool → Bool → Bool → Option ℕ
+last_of a b c d = cond d (Some 3) (cond c (Some 2) (cond b (Some 1) (cond a (Some 0) None)))
 
-abbrev pub last_in : Words → ℕ → ℕ
+abbrev pub last_in : Words → ℕ → Option ℕ
 last_in w i = last_of (bit w.a i) (bit w.b i) (bit w.c i) (bit w.d i)
 
 -- by the places
-abbrev pub last_on : (Reply → Bool) → List Place → ℕ
+abbrev pub last_on : (Reply → Bool) → List Place → Option ℕ
 last_on p l = last_of (test p (get_or l 0 idle)) (test p (get_or l 1 idle)) (test p (get_or l 2 idle)) (test p (get_or l 3 idle))

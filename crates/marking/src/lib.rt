@@ -5,7 +5,7 @@ ghost use Rattle.std.specs.Prelude.{◌<◌, ◌≡◌, cond};
 ghost use Rattle.plane.specs.Words.{bit};
 ghost use Rattle.marking.specs.Marks.{with_word_lem, without_word_lem, AnyWord, TwiceWord, which_in, last_in, behind_of};
 
-use plane::marked;
+use plane::{Nth, marked};
 
 // A word of ticks for each of the four places.
 #[derive(Clone, Copy)]
@@ -63,42 +63,31 @@ pub fn twice(w: Words) -> u64
     (w.a & w.b) | (((w.a | w.b) & w.c) | ((w.a | w.b | w.c) & w.d))
 }
 
-// Bit i of a word, as a number.
-fn digit(x: u64, i: u32) -> u64
-    requires { i < 64 }
-    ensures is { result ≡ cond (bit x i) 1 0 }
-    ensures below { result < 2 }
-{
-    (x >> i) % 2
-}
-
 // The one place whose word marks tick i. By arithmetic: a branch on it would not be foreseen.
-pub fn which(w: Words, i: u32) -> usize
-    requires { i < 64 }
-    ensures is { result ≡ which_in w i }
+pub fn which(w: Words, i: Nth) -> usize
+    ensures is { result ≡ which_in w i.n }
     ensures below { result < 4 }
 {
-    (digit(w.b | w.d, i) + 2 * digit(w.c | w.d, i)) as usize
+    usize::from(marked(w.b | w.d, i)) + 2 * usize::from(marked(w.c | w.d, i))
 }
 
-// The last of the places whose word marks tick i; 4 where none does.
-pub fn last_marked(w: Words, i: u32) -> usize
-    requires { i < 64 }
-    ensures { result ≡ last_in w i }
+// The last of the places whose word marks tick i, if one does. Where none does, one test says so.
+pub fn last_marked(w: Words, i: Nth) -> Option<usize>
+    ensures { result ≡ last_in w i.n }
 {
+    if !marked(any_word(w), i) {
+        return None;
+    }
     if marked(w.d, i) {
-        return 3;
+        return Some(3);
     }
     if marked(w.c, i) {
-        return 2;
+        return Some(2);
     }
     if marked(w.b, i) {
-        return 1;
+        return Some(1);
     }
-    if marked(w.a, i) {
-        return 0;
-    }
-    4
+    Some(0)
 }
 
 // The place whose reply is at j once that of place k has left.

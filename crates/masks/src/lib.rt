@@ -4,7 +4,7 @@
 ghost use Rattle.std.specs.Prelude.{ℕ, ◌+◌, ◌<◌, ◌≡◌};
 ghost use Rattle.masks.specs.Masks.{cover_word_lem, phantom_word_lem, Across, covers_from, CoverMask, PhantomMask};
 
-use plane::{marked, slide};
+use plane::{Nth, slide};
 use rules::Tick;
 
 // Of the ticks from 65 before F1 on, the k-th 64: those that a reply covers.
@@ -81,20 +81,18 @@ pub fn phantom_mask(q: Tick, suspect: bool, t: Tick) -> u64
 }
 
 // The ticks of a block that a reply covers whose F1 is the i-th of them.
-pub fn open_cover(i: u32) -> u64
-    requires { i < 64 }
-    ensures { (q t : ℕ) → t + i ≡ q + 242 → CoverMask q t result }
+pub fn open_cover(i: Nth) -> u64
+    ensures { (q t : ℕ) → t + i.n ≡ q + 242 → CoverMask q t result }
 {
-    (0x3803803803803803 << i) | ((1 << i) >> 1)
+    (0x3803803803803803 << i.n) | ((1 << i.n) >> 1)
 }
 
 // Those at which a bracket removes it.
-pub fn open_phantom(i: u32, suspect: bool) -> u64
-    requires { i < 64 }
-    ensures { (q t : ℕ) → t + i ≡ q + 242 → PhantomMask q suspect t result }
+pub fn open_phantom(i: Nth, suspect: bool) -> u64
+    ensures { (q t : ℕ) → t + i.n ≡ q + 242 → PhantomMask q suspect t result }
 {
     if !suspect {
         return 0;
     }
-    0x7c07c07c07c07c00 << i
+    0x7c07c07c07c07c00 << i.n
 }

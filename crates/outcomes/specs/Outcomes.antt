@@ -1,5 +1,5 @@
 -- What becomes of a bracket with F1 at e and F2 at w, with M if main, phantoms removed one by one.
-use Rattle.std.specs.Prelude.{ℕ, ◌<◌, ◌≡◌, Bool, true, false, not, ◌&&◌, ◌||◌, cond, List, ltb}
+use Rattle.std.specs.Prelude.{ℕ, ◌≡◌, Bool, true, false, not, ◌&&◌, ◌||◌, cond, List, Option, Some, None}
 use Rattle.rules.specs.declared.Place.{Place}
 use Rattle.rules.specs.declared.Pulse.{Pulse}
 use Rattle.rules.specs.declared.Counts.{Counts}
@@ -16,26 +16,31 @@ use Rattle.outcomes.specs.declared.Outcome.{Outcome}
 use Rattle.outcomes.specs.declared.Outcome.TheVariants.{Sidelobe as Aside, Removes, Garbled as Garbles, Lost as Loses, Opens as Opening}
 use Rattle.firsts.specs.Ticks.{firsts_of_lem, AllEarly}
 
--- By whether a framing pulse has M, by the place of the last phantom (4 for none), by whether a framing pulse has M and is uncovered, and by whether no place is idle.
-abbrev pub outcome_by : Bool → ℕ → Bool → Bool → Outcome
-outcome_by main k clear busy = cond main (cond (ltb k 4) (Removes k) (cond clear (cond busy Loses Opening) Garbles)) Aside
+-- the phantom of the place goes, if there is one; else y
+abbrev pub removes_or : Option ℕ → Outcome → Outcome
+removes_or None y = y
+removes_or (Some k) y = Removes k
+
+-- By whether a framing pulse has M, by the place of the last phantom, by whether a framing pulse has M and is uncovered, and by whether no place is idle.
+abbrev pub outcome_by : Bool → Option ℕ → Bool → Bool → Outcome
+outcome_by main k clear busy = cond main (removes_or k (cond clear (cond busy Loses Opening) Garbles)) Aside
 
 -- a framing pulse has M and is uncovered by every open reply
 abbrev pub clear_in : Pulse → ℕ → Bool → List Place → Bool
 clear_in e w main l =
     (e.main && not (any_in (covers e.tick.0) (four l))) || (main && not (any_in (covers w) (four l)))
 
--- the place of the phantom that goes, or 4
-abbrev pub removed_by_lem : Outcome → ℕ
-removed_by_lem Aside = 4
-removed_by_lem (Removes k) = k
-removed_by_lem Garbles = 4
-removed_by_lem Loses = 4
-removed_by_lem Opening = 4
+-- the place of the phantom that goes
+abbrev pub removed_by : Outcome → Option ℕ
+removed_by Aside = None
+removed_by (Removes k) = Some k
+removed_by Garbles = None
+removed_by Loses = None
+removed_by Opening = None
 
 pub record OutcomePost (f : Firsts) (on risk : Words) (i : ℕ) (e : Pulse) (w : ℕ) (main busy : Bool) (y : Outcome) : Type 0 where
   -- a place that is left is one whose word marks the tick
-  pub last : removed_by_lem y < 4 → removed_by_lem y ≡ last_in risk i
+  pub last : (k : ℕ) → y ≡ Removes k → last_in risk i ≡ Some k
   pub at : (l : List Place) → f ≡ firsts_of_lem l → AllEarly w l → Marked on i (covers e.tick.0) l → Marked risk i (is_phantom e.tick.0) l
       → y ≡ outcome_by (e.main || main) (last_on (is_phantom e.tick.0) l) (clear_in e w main l) busy
 

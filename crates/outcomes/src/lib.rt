@@ -2,12 +2,12 @@
 #![tactic(auto)]
 
 ghost use Rattle.std.specs.Prelude.{◌<◌, ◌≡◌};
-ghost use Rattle.outcomes.specs.Outcomes.{OutcomePost, removed_by_lem, is_opening, phantom_more_lem, counted_by};
+ghost use Rattle.outcomes.specs.Outcomes.{OutcomePost, phantom_more_lem, counted_by};
 
 use firsts::{Firsts, any_hides};
 use marking::{Words, any_word, last_marked};
 use places::tallied;
-use plane::marked;
+use plane::{Nth, marked};
 use rules::{Counts, Fate, Pulse, Tick};
 
 // What becomes of a bracket. A phantom that it removes, with its place, is removed first, and the bracket tried again.
@@ -25,22 +25,21 @@ pub fn outcome_of(
     f: Firsts,
     on: Words,
     risk: Words,
-    i: u32,
+    i: Nth,
     e: Pulse,
     w: Tick,
     main: bool,
     busy: bool,
 ) -> Outcome
-    requires { i < 64 }
-    ensures { OutcomePost f on risk i e w.0 main busy result }
+    ensures { OutcomePost f on risk i.n e w.0 main busy result }
 {
     // 1. Neither framing pulse has M.
     if !(e.main | main) {
         return Outcome::Sidelobe;
     }
     // 2. Potential phantoms at this bracket go.
-    if marked(any_word(risk), i) {
-        return Outcome::Removes(last_marked(risk, i));
+    if let Some(k) = last_marked(risk, i) {
+        return Outcome::Removes(k);
     }
     // 3. No framing pulse both has M and is uncovered.
     let clear = (e.main & !marked(any_word(on), i)) | (main & !any_hides(f, w));
@@ -53,31 +52,6 @@ pub fn outcome_of(
     }
     // 5. A reply opens.
     Outcome::Opens
-}
-
-// The place of the phantom that is removed; 4 for none.
-pub fn removed_by(y: Outcome) -> usize
-    ensures { result ≡ removed_by_lem y }
-{
-    match y {
-        Outcome::Sidelobe => 4,
-        Outcome::Removes(k) => k,
-        Outcome::Garbled => 4,
-        Outcome::Lost => 4,
-        Outcome::Opens => 4,
-    }
-}
-
-pub fn opens(y: Outcome) -> bool
-    ensures { result ≡ is_opening y }
-{
-    match y {
-        Outcome::Sidelobe => false,
-        Outcome::Removes(_) => false,
-        Outcome::Garbled => false,
-        Outcome::Lost => false,
-        Outcome::Opens => true,
-    }
 }
 
 // The counts with the outcome.
@@ -98,11 +72,7 @@ fn phantom_more(c: Counts) -> Counts
     ensures { result ≡ phantom_more_lem c }
 {
     Counts {
-        found: c.found,
-        opened: c.opened,
-        sidelobe: c.sidelobe,
-        garbled: c.garbled,
-        lost: c.lost,
         phantoms: c.phantoms.wrapping_add(1),
+        ..c
     }
 }

@@ -16,12 +16,21 @@ pub fn slide(before: u64, now: u64, r: u32) -> u64
     (now << (64 - r)) | ((before >> 1) >> (r - 1))
 }
 
+// The number of a bit within its word, which is that of a tick within its block.
+#[derive(Clone, Copy)]
+pub struct Nth {
+    pub n: u32,
+    ghost below: { n < 64 },
+}
+
 // The number of the lowest set bit.
-pub fn lowest(x: u64) -> u32
+pub fn lowest(x: u64) -> Nth
     requires { 0 < x }
-    ensures { Lowest x result }
+    ensures { Lowest x result.n }
 {
-    u64::trailing_zeros(x)
+    Nth {
+        n: u64::trailing_zeros(x),
+    }
 }
 
 // The word without its lowest set bit.
@@ -33,9 +42,8 @@ pub fn without_lowest(x: u64) -> u64
 }
 
 // Bit i of a word.
-pub fn marked(x: u64, i: u32) -> bool
-    requires { i < 64 }
-    ensures { result ≡ bit x i }
+pub fn marked(x: u64, i: Nth) -> bool
+    ensures { result ≡ bit x i.n }
 {
-    (x >> i) % 2 == 1
+    (x >> i.n) % 2 == 1
 }

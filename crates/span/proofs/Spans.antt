@@ -1,14 +1,12 @@
 -- The machine's view of 64 ticks: the words of a span give at each tick the edge and the bracket of the rules.
-use Prim.Native.Nat.{ℕ, ◌+◌, ◌-◌, ◌/◌, ◌%◌, ◌^◌, ◌≤◌, ◌<◌}
-use native.Mathlib.Nat.{mod-lt}
+use Prim.Native.Nat.{ℕ, ◌+◌, ◌-◌, ◌^◌, ◌≤◌, ◌<◌}
 use native.Mathlib.Omega.{arith}
-use mathlib.Core.Path.{◌≡◌, refl, sym, ap, ◌∙◌, subst}
+use mathlib.Core.Path.{◌≡◌, refl, sym, ap, ap₂, ◌∙◌, subst}
 use mathlib.Core.Bool.{Bool, true, false, not, ◌&&◌, ◌||◌, cond}
 use mathlib.Core.List.{List}
+use mir.Val.{bool_byte}
 use lib.Bits.{bit_and, bit_or, or_lt}
-use lib.Dec.{eqb}
 use lib.ListN.{length}
-use borrow.Author.Tests.{eqb-true, eqb-false}
 use Rattle.std.proofs.Common.{Some, None}
 use Rattle.rules.specs.Settings.{standard}
 use Rattle.rules.specs.Samples.{Trace, M}
@@ -79,14 +77,6 @@ span_law f s h = record { result = λ F e. spanned (padded F) (length F) f s h (
 
 -- ---- where an F2 stands, by bits of words
 
-pub digit-is : (x i : ℕ) → x / 2 ^ i % 2 ≡ cond (bit x i) 1 0
-unfolding bit
-digit-is x i = go (eqb (x / 2 ^ i % 2) 1) refl
-  where
-    go : (c : Bool) → eqb (x / 2 ^ i % 2) 1 ≡ c → x / 2 ^ i % 2 ≡ cond c 1 0
-    go true e = eqb-true (x / 2 ^ i % 2) 1 e
-    go false e = let b : x / 2 ^ i % 2 < 2 = mod-lt (x / 2 ^ i) (omega arith) in omega (arith, eqb-false (x / 2 ^ i % 2) 1 e, b)
-
 or-three : (a b c i : ℕ) → bit (bit_or (bit_or a b) c) i ≡ (bit a i || (bit b i || bit c i))
 or-three a b c i = bit-or (bit_or a b) c i ∙ ap (λ (y : Bool). y || bit c i) (bit-or a b i) ∙ in_turn (bit a i) (bit b i) (bit c i)
   where
@@ -104,16 +94,16 @@ module _ (a b i : ℕ) (la : a < 2 ^ 64) (lb : b < 2 ^ 64) (li : i < 64) where
   later-bit : bit (2 ^ 64 - 1 - bit_or a b) i ≡ not (bit a i || bit b i)
   later-bit = bit_not (bit_or a b) 64 i (or_lt 64 a b la lb) li ∙ ap not (bit-or a b i)
 
-  pub apart-is : (x y d e : ℕ) → x ≡ 2 ^ 64 - 1 - bit_or a b → y ≡ bit_and b (2 ^ 64 - 1 - a) → d ≡ cond (bit x i) 1 0 → e ≡ cond (bit y i) 1 0
-      → 168 + d - e ≡ cond (bit a i) 168 (cond (bit b i) 167 169)
+  pub apart-is : (x y : ℕ) (d e : Bool) → x ≡ 2 ^ 64 - 1 - bit_or a b → y ≡ bit_and b (2 ^ 64 - 1 - a) → d ≡ bit x i → e ≡ bit y i
+      → 168 + bool_byte d - bool_byte e ≡ cond (bit a i) 168 (cond (bit b i) 167 169)
   apart-is x y d e ex ey ed ee =
-      go (bit a i) (bit b i) (ed ∙ ap (λ (z : Bool). cond z 1 0) (ap (λ (z : ℕ). bit z i) ex ∙ later-bit)) (ee ∙ ap (λ (z : Bool). cond z 1 0) (ap (λ (z : ℕ). bit z i) ey ∙ sooner-bit))
+      ap₂ (λ (p q : Bool). 168 + bool_byte p - bool_byte q) (ed ∙ ap (λ (z : ℕ). bit z i) ex ∙ later-bit) (ee ∙ ap (λ (z : ℕ). bit z i) ey ∙ sooner-bit) ∙ go (bit a i) (bit b i)
     where
-      go : (p q : Bool) → d ≡ cond (not (p || q)) 1 0 → e ≡ cond (q && not p) 1 0 → 168 + d - e ≡ cond p 168 (cond q 167 169)
-      go true true h k = omega arith
-      go true false h k = omega arith
-      go false true h k = omega arith
-      go false false h k = omega arith
+      go : (p q : Bool) → 168 + bool_byte (not (p || q)) - bool_byte (q && not p) ≡ cond p 168 (cond q 167 169)
+      go true true = refl
+      go true false = refl
+      go false true = refl
+      go false false = refl
 
   pub second_is : (r : Bool) (m n o x y : ℕ) → x ≡ bit_and b (2 ^ 64 - 1 - a) → y ≡ 2 ^ 64 - 1 - bit_or a b → r ≡ bit (bit_or (bit_and a m) (bit_or (bit_and x n) (bit_and y o))) i
       → r ≡ cond (bit a i) (bit m i) (cond (bit b i) (bit n i) (bit o i))

@@ -7,7 +7,7 @@ ghost use Rattle.span.specs.Spans.{SpanPost, TopPost, AbovePost, has_bracket_lem
 
 use brackets::{at167, at168, due};
 use front::words::Front;
-use plane::{marked, slide};
+use plane::{Nth, marked, slide};
 use rules::Tick;
 
 // The 64 ticks u that the machine can work, as words: edges at u, at u+168, at u+167 and at u+169, and the M of each.
@@ -54,17 +54,15 @@ pub fn top(x: u64, r: u32) -> u64
 }
 
 // The bits above bit i.
-pub fn above(x: u64, i: u32) -> u64
-    requires { i < 64 }
-    ensures { AbovePost x i result }
+pub fn above(x: u64, i: Nth) -> u64
+    ensures { AbovePost x i.n result }
 {
-    (((x >> i) >> 1) << 1) << i
+    (((x >> i.n) >> 1) << 1) << i.n
 }
 
 // A bracket stands at the i-th tick of the span, if an edge does.
-pub fn has_bracket(s: Span, i: u32) -> bool
-    requires { i < 64 }
-    ensures { result ≡ has_bracket_lem s i }
+pub fn has_bracket(s: Span, i: Nth) -> bool
+    ensures { result ≡ has_bracket_lem s i.n }
 {
     marked(s.at168 | s.at167 | s.at169, i)
 }
@@ -83,27 +81,17 @@ fn later(s: Span) -> u64
     !(s.at168 | s.at167)
 }
 
-// Bit i of a word, as a number.
-fn digit(x: u64, i: u32) -> u32
-    requires { i < 64 }
-    ensures { result ≡ cond (bit x i) 1 0 }
-{
-    ((x >> i) % 2) as u32
-}
-
 // How far behind an edge its F2 stands: 168 ticks, else 167, else 169.
-pub fn apart(s: Span, i: u32) -> u32
-    requires { i < 64 }
-    ensures is { result ≡ cond (bit s.at168 i) 168 (cond (bit s.at167 i) 167 169) }
+pub fn apart(s: Span, i: Nth) -> u32
+    ensures is { result ≡ cond (bit s.at168 i.n) 168 (cond (bit s.at167 i.n) 167 169) }
     ensures most { result ≤ 169 }
 {
-    168 + digit(later(s), i) - digit(sooner(s), i)
+    168 + u32::from(marked(later(s), i)) - u32::from(marked(sooner(s), i))
 }
 
 // M of the F2 there.
-pub fn second_main(s: Span, i: u32) -> bool
-    requires { i < 64 }
-    ensures { result ≡ cond (bit s.at168 i) (bit s.main168 i) (cond (bit s.at167 i) (bit s.main167 i) (bit s.main169 i)) }
+pub fn second_main(s: Span, i: Nth) -> bool
+    ensures { result ≡ cond (bit s.at168 i.n) (bit s.main168 i.n) (cond (bit s.at167 i.n) (bit s.main167 i.n) (bit s.main169 i.n)) }
 {
     let x = s.at168 & s.main168;
     let y = sooner(s) & s.main167;
@@ -112,13 +100,13 @@ pub fn second_main(s: Span, i: u32) -> bool
 }
 
 // The tick of the i-th place of the span, once t ticks are taken; 0 for a place before the sweep.
-pub fn tick_of(t: Tick, i: u32) -> Tick
-    requires { (i < 64) × (t.0 < 65000) }
+pub fn tick_of(t: Tick, i: Nth) -> Tick
+    requires { t.0 < 65000 }
     ensures below { result.0 < 65536 }
-    ensures is { result.0 ≡ t.0 + i - 242 }
+    ensures is { result.0 ≡ t.0 + i.n - 242 }
 {
-    if t.0 + i < 242 {
+    if t.0 + i.n < 242 {
         return Tick(0);
     }
-    Tick(t.0 + i - 242)
+    Tick(t.0 + i.n - 242)
 }

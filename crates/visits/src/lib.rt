@@ -6,7 +6,7 @@ ghost use Rattle.visits.specs.Visits.{Wanted, edge_in, apart_in, second_in};
 
 use front::values::value_at;
 use marking::{Words, any_word};
-use plane::marked;
+use plane::{Nth, marked};
 use rules::{Pulse, Tick};
 use span::{Span, apart, second_main};
 
@@ -18,9 +18,9 @@ pub fn wanted(s: Span, on: Words, x: u64) -> u64
 }
 
 // The edge at u, which is tick i of the span: its value is that of the next tick.
-pub fn edge_at(s: Span, i: u32, u: Tick, recent: &[u8; 256], base: u32, values: &[u8]) -> Pulse
-    requires { (i < 64) × (u.0 < 65536) }
-    ensures { result ≡ edge_in s i u.0 recent.now base values.now }
+pub fn edge_at(s: Span, i: Nth, u: Tick, recent: &[u8; 256], base: u32, values: &[u8]) -> Pulse
+    requires { u.0 < 65536 }
+    ensures { result ≡ edge_in s i.n u.0 recent.now base values.now }
 {
     let main = marked(s.main, i);
     let value = value_at(recent, base, values, u.0 + 1);
@@ -32,18 +32,18 @@ pub fn edge_at(s: Span, i: u32, u: Tick, recent: &[u8; 256], base: u32, values: 
 }
 
 // The tick of the F2 of the bracket at u, where one stands.
-pub fn second_tick(s: Span, i: u32, u: Tick) -> Tick
-    requires { (i < 64) × (u.0 < 65536) }
-    ensures is { result.0 ≡ u.0 + apart_in s i }
+pub fn second_tick(s: Span, i: Nth, u: Tick) -> Tick
+    requires { u.0 < 65536 }
+    ensures is { result.0 ≡ u.0 + apart_in s i.n }
     ensures most { result.0 ≤ u.0 + 169 }
 {
     Tick(u.0 + apart(s, i))
 }
 
 // The F2 of the bracket at u, where one stands.
-pub fn second_at(s: Span, i: u32, u: Tick, recent: &[u8; 256], base: u32, values: &[u8]) -> Pulse
-    requires { (i < 64) × (u.0 < 65536) }
-    ensures { result ≡ second_in s i u.0 recent.now base values.now }
+pub fn second_at(s: Span, i: Nth, u: Tick, recent: &[u8; 256], base: u32, values: &[u8]) -> Pulse
+    requires { u.0 < 65536 }
+    ensures { result ≡ second_in s i.n u.0 recent.now base values.now }
 {
     let w = second_tick(s, i, u);
     let main = second_main(s, i);

@@ -14,4 +14,4 @@ returns c =
     let inside = c.inside in
     let marked = c.marked in
     let a = c.args in
-    any-inside_law a.f a.on a.i a.u.0 marked.result marked2.result marked3.result marked4.result inside.result inside2.result inside3.result inside4.result _ marked.ensures marked2.ensures marked3.ensures marked4.ensures inside.ensures inside2.ensures inside3.ensures inside4.ensures (four-in-turn inside.result inside2.result inside3.result inside4.result)
+    any-inside_law a.f a.on a.i.n a.u.0 marked.result marked2.result marked3.result marked4.result inside.result inside2.result inside3.result inside4.result _ marked.ensures marked2.ensures marked3.ensures marked4.ensures inside.ensures inside2.ensures inside3.ensures inside4.ensures (four-in-turn inside.result inside2.result inside3.result inside4.result)

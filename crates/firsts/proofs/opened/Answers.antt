@@ -9,4 +9,4 @@ returns c =
     let marked = c.marked in
     let anyword = c.any_word in
     let a = c.args in
-    opened_law a.f a.on a.i a.e a.f2 anyword.result marked.result anyinside.result anymilitary.result c.opened_by.result anyword.ensures marked.ensures anyinside.ensures anymilitary.ensures c.opened_by.ensures
+    opened_law a.f a.on a.i.n a.e a.f2 anyword.result marked.result anyinside.result anymilitary.result c.opened_by.result anyword.ensures marked.ensures anyinside.ensures anymilitary.ensures c.opened_by.ensures

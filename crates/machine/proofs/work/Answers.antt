@@ -11,6 +11,8 @@ use Rattle.rules.specs.Replies.{ended}
 use Rattle.places.specs.Places.{idle}
 use Rattle.firsts.specs.Ticks.{OpenedPost}
 use Rattle.marking.specs.Marks.{TwiceWord}
+use Rattle.outcomes.specs.Outcomes.{removed_by, is_opening}
+use Rattle.outcomes.proofs.Outcomes.{leaves_places}
 use Rattle.marking.proofs.Marking.{twice_as}
 use Rattle.covering.proofs.Starting.{all-marked}
 use Rattle.span.specs.Spans.{bracket_in}
@@ -27,7 +29,7 @@ use Rattle.blocks.proofs.Working.{work_start, work-over, work-less, work-taken, 
 use Rattle.machine.proofs.Dealing.{Turning, turning_none, turning_heard, turning_passed, Dealt, deals_four, deals_one, deals_none}
 use Rattle.machine.proofs.Handing.{hands_none, hands_more}
 use Rattle.machine.proofs.Turns.{turn-taken, turn-over, turn-less, hand_less, four-places}
-use Rattle.machine.proofs.work.Goals.{then-has_bracket+else-k-lt4, then-opens, else-opens, else-has_bracket, then-v-k, else-v-k, then-marked+else-loop-k-test, else-marked+then-marked-2, else-marked+else-marked-2}
+use Rattle.machine.proofs.work.Goals.{then-has_bracket, in-Opens, in-Sidelobe, else-has_bracket, then-v-k, else-v-k, then-marked+else-loop-k-test, else-marked+then-marked-2, else-marked+else-marked-2}
 use Rattle.machine.proofs.work.Goals as goal
 
 pub loop-done-init : goal.loop-done-init
@@ -124,83 +126,47 @@ pub tick_of-u-requires : goal.tick_of-u-requires
 tick_of-u-requires c =
     let test1 = c.loop-done-test in
     let pre = c.requires in
-    (c.lowest-i.ensures.below, omega (arith, pre, c.block_length-r.ensures.within, test1.true))
+    omega (arith, pre, c.block_length-r.ensures.within, test1.true)
 
 pub loop-todo-smaller-then-is_over : goal.loop-todo-smaller-then-is_over
 loop-todo-smaller-then-is_over c =
     let loop2 = c.loop-todo in
-    turn-over (ended c.tick_of-u.result.0) loop2.from loop2.places _ loop2.risk c.without_word-risk.result (sym c.is_over.ensures ∙ c.if-is_over.true) (four-places _ _ _ _ _ _ _ _ c.kept.ensures c.kept-then-is_over.ensures c.kept-then-is_over-2.ensures c.idle_place.ensures) c.without_word-risk.ensures
+    turn-over (ended c.tick_of-u.result.0) loop2.from loop2.places _ loop2.risk c.without_word-risk.result (sym c.is_over.ensures ∙ c.if-is_over.true) refl c.without_word-risk.ensures
 
 pub loop-todo-preserved-then-is_over : goal.loop-todo-preserved-then-is_over
 loop-todo-preserved-then-is_over c =
     let loop2 = c.loop-todo in
     let loop = c.loop-done in
     let args = c.args in (
-      work-over (machine_in loop.places loop.counts) c.span_of-s.result c.block_length-r.result _ args.recent.now args.base args.values.now loop.at loop.out loop2.out loop2.places loop2.on loop2.risk loop2.counts loop2.at loop2.todo loop2.from loop2.invariant.0 c.lowest-i.result c.tick_of-u.result.0 c.lowest-i.ensures c.tick_of-u.ensures.is
-          c.is_over.result c.is_over.ensures c.if-is_over.true c.hand_one-at.result _ c.hand_one-at.auto.out c.hand_one-at.ensures c.without_word-on.result c.without_word-risk.result _ c.without_word-on.ensures c.without_word-risk.ensures (four-places _ _ _ _ _ _ _ _ c.kept.ensures c.kept-then-is_over.ensures c.kept-then-is_over-2.ensures c.idle_place.ensures),
+      work-over (machine_in loop.places loop.counts) c.span_of-s.result c.block_length-r.result _ args.recent.now args.base args.values.now loop.at loop.out loop2.out loop2.places loop2.on loop2.risk loop2.counts loop2.at loop2.todo loop2.from loop2.invariant.0 c.lowest-i.result.n c.tick_of-u.result.0 c.lowest-i.ensures c.tick_of-u.ensures.is
+          c.is_over.result c.is_over.ensures c.if-is_over.true c.hand_one-at.result _ c.hand_one-at.auto.out c.hand_one-at.ensures c.without_word-on.result c.without_word-risk.result _ c.without_word-on.ensures c.without_word-risk.ensures refl,
       c.twice-both-then-is_over.ensures,
     )
 
-pub edge_at-e-requires : goal.edge_at-e-requires
-edge_at-e-requires c =
-    (c.lowest-i.ensures.below, c.tick_of-u.ensures.below)
-
-pub has_bracket-requires : goal.has_bracket-requires
-has_bracket-requires c =
-    c.lowest-i.ensures.below
-
-pub outcome_of-y-requires : goal.outcome_of-y-requires
-outcome_of-y-requires c =
-    c.lowest-i.ensures.below
-
-pub loop-todo-smaller-then-k-lt4 : goal.loop-todo-smaller-then-k-lt4
-loop-todo-smaller-then-k-lt4 c =
+pub loop-todo-smaller-in-Removes : goal.loop-todo-smaller-in-Removes
+loop-todo-smaller-in-Removes c =
     let loop2 = c.loop-todo in
-    turn-less c.removed_by-k.result c.lowest-i.result loop2.from loop2.places _ loop2.risk c.without_word-risk-then-k-lt4.result c.if-k-lt4.true (c.removed_by-k.ensures ∙ c.outcome_of-y.ensures.last (omega (arith, c.removed_by-k.ensures, c.if-k-lt4.true))) (four-places _ _ _ _ _ _ _ _ (c.kept-then-k-lt4.ensures ∙ ap (λ (n : ℕ). get_or loop2.places n idle) c.behind.ensures.is) (c.kept-then-k-lt4-2.ensures ∙ ap (λ (n : ℕ). get_or loop2.places n idle) c.behind-then-k-lt4.ensures.is) (c.kept-then-k-lt4-3.ensures ∙ ap (λ (n : ℕ). get_or loop2.places n idle) c.behind-then-k-lt4-2.ensures.is) c.idle_place-then-k-lt4.ensures) c.without_word-risk-then-k-lt4.ensures
+    turn-less c.in-Removes.k c.lowest-i.result.n loop2.from loop2.places _ loop2.risk c.without_word-risk-in-Removes.result (c.outcome_of-y.ensures.last c.in-Removes.k c.in-Removes.is)
+    (four-places _ _ _ _ _ _ _ _ (ap (λ (n : ℕ). get_or loop2.places n idle) c.behind.ensures.is) (ap (λ (n : ℕ). get_or loop2.places n idle) c.behind-in-Removes.ensures.is) (ap (λ (n : ℕ). get_or loop2.places n idle) c.behind-in-Removes-2.ensures.is) refl)
+    c.without_word-risk-in-Removes.ensures
 
-pub loop-todo-preserved-then-k-lt4 : goal.loop-todo-preserved-then-k-lt4
-loop-todo-preserved-then-k-lt4 c =
+pub loop-todo-preserved-in-Removes : goal.loop-todo-preserved-in-Removes
+loop-todo-preserved-in-Removes c =
     let loop2 = c.loop-todo in
     let loop = c.loop-done in
     let args = c.args in
-    let f2 = second_in c.span_of-s.result c.lowest-i.result c.tick_of-u.result.0 args.recent.now args.base args.values.now in (
-      work-less (machine_in loop.places loop.counts) c.span_of-s.result c.block_length-r.result _ args.recent.now args.base args.values.now loop.at loop.out loop2.out loop2.places loop2.on loop2.risk loop2.counts loop2.at loop2.todo loop2.from loop2.invariant.0 c.lowest-i.result c.tick_of-u.result.0 c.lowest-i.ensures c.tick_of-u.ensures.is c.is_over.result c.is_over.ensures c.if-is_over.false c.edge_at-e.result c.edge_at-e.ensures f2
-          (second_as c.span_of-s.result c.lowest-i.result c.tick_of-u.result.0 args.recent.now args.base args.values.now c.has_bracket.result c.has_bracket.ensures c.if-has_bracket.true f2 refl)
+    let f2 = second_in c.span_of-s.result c.lowest-i.result.n c.tick_of-u.result.0 args.recent.now args.base args.values.now in (
+      work-less (machine_in loop.places loop.counts) c.span_of-s.result c.block_length-r.result _ args.recent.now args.base args.values.now loop.at loop.out loop2.out loop2.places loop2.on loop2.risk loop2.counts loop2.at loop2.todo loop2.from loop2.invariant.0 c.lowest-i.result.n c.tick_of-u.result.0 c.lowest-i.ensures c.tick_of-u.ensures.is c.is_over.result c.is_over.ensures c.if-is_over.false c.edge_at-e.result c.edge_at-e.ensures f2
+          (second_as c.span_of-s.result c.lowest-i.result.n c.tick_of-u.result.0 args.recent.now args.base args.values.now c.has_bracket.result c.has_bracket.ensures c.if-has_bracket.true f2 refl)
           c.firsts_of-f.result c.firsts_of-f.ensures c.is_busy.result c.outcome_of-y.result
-          (second_outcome c.span_of-s.result c.lowest-i.result c.tick_of-u.result.0 args.recent.now args.base args.values.now c.firsts_of-f.result loop2.on loop2.risk c.edge_at-e.result c.second_tick-w.result.0 c.second_main.result c.is_busy.result c.outcome_of-y.result c.second_tick-w.ensures.is c.second_main.ensures c.outcome_of-y.ensures) c.removed_by-k.result c.removed_by-k.ensures c.if-k-lt4.true c.counted-counts.result c.counted-counts.ensures c.without_word-on-then-k-lt4.result c.without_word-risk-then-k-lt4.result _ c.without_word-on-then-k-lt4.ensures c.without_word-risk-then-k-lt4.ensures (four-places _ _ _ _ _ _ _ _ (c.kept-then-k-lt4.ensures ∙ ap (λ (n : ℕ). get_or loop2.places n idle) c.behind.ensures.is) (c.kept-then-k-lt4-2.ensures ∙ ap (λ (n : ℕ). get_or loop2.places n idle) c.behind-then-k-lt4.ensures.is) (c.kept-then-k-lt4-3.ensures ∙ ap (λ (n : ℕ). get_or loop2.places n idle) c.behind-then-k-lt4-2.ensures.is) c.idle_place-then-k-lt4.ensures),
-      c.twice-both-then-k-lt4.ensures,
+          (second_outcome c.span_of-s.result c.lowest-i.result.n c.tick_of-u.result.0 args.recent.now args.base args.values.now c.firsts_of-f.result loop2.on loop2.risk c.edge_at-e.result c.second_tick-w.result.0 c.second_main.result c.is_busy.result c.outcome_of-y.result c.second_tick-w.ensures.is c.second_main.ensures c.outcome_of-y.ensures)
+          c.in-Removes.k c.in-Removes.is c.counted-counts.result c.counted-counts.ensures c.without_word-on-in-Removes.result c.without_word-risk-in-Removes.result _ c.without_word-on-in-Removes.ensures c.without_word-risk-in-Removes.ensures
+          (four-places _ _ _ _ _ _ _ _ (ap (λ (n : ℕ). get_or loop2.places n idle) c.behind.ensures.is) (ap (λ (n : ℕ). get_or loop2.places n idle) c.behind-in-Removes.ensures.is) (ap (λ (n : ℕ). get_or loop2.places n idle) c.behind-in-Removes-2.ensures.is) refl),
+      c.twice-both-in-Removes.ensures,
     )
 
-pub second_at-f2-requires : goal.second_at-f2-requires
-second_at-f2-requires c =
-    (c.lowest-i.ensures.below, c.tick_of-u.ensures.below)
-
-pub opened-reply-requires : goal.opened-reply-requires
-opened-reply-requires c =
-    c.lowest-i.ensures.below
-
-pub open_cover-requires : goal.open_cover-requires
-open_cover-requires c =
-    c.lowest-i.ensures.below
-
-pub open_phantom-requires : goal.open_phantom-requires
-open_phantom-requires c =
-    c.lowest-i.ensures.below
-
-pub above-requires : goal.above-requires
-above-requires c =
-    c.lowest-i.ensures.below
-
-pub marked-requires : goal.marked-requires
-marked-requires c =
-    c.lowest-i.ensures.below
-
-pub agreement_of-v-requires : goal.agreement_of-v-requires
-agreement_of-v-requires c =
-    c.lowest-i.ensures.below
-
 pub loop-k-init : goal.loop-k-init
-loop-k-init c = (omega arith, turning_none c.if-has_bracket.places c.if-has_bracket.on c.lowest-i.result c.edge_at-e.result)
+loop-k-init c = (omega arith, turning_none c.if-has_bracket.places c.if-has_bracket.on c.lowest-i.result.n c.edge_at-e.result)
 
 pub loop-k-smaller : goal.loop-k-smaller
 loop-k-smaller c =
@@ -213,27 +179,19 @@ loop-k-preserved c =
     let loop3 = c.loop-k in (
       omega (arith, test3.true),
       elim c.if-v-k.branch [
-        | then-v-k w ↦ (subst (λ (m : List Place). Turning c.if-has_bracket.places c.if-has_bracket.on c.lowest-i.result c.edge_at-e.result (loop3.k + 1) m) (sym w.places-is)
-            (turning_heard c.if-has_bracket.places c.if-has_bracket.on c.lowest-i.result c.edge_at-e.result c.agreement_of-v.result c.agreement_of-v.ensures loop3.k loop3.places loop3.invariant.1 test3.true w.if-v-k.true w.heard.result w.heard.ensures))
-        | else-v-k w ↦ (subst (λ (m : List Place). Turning c.if-has_bracket.places c.if-has_bracket.on c.lowest-i.result c.edge_at-e.result (loop3.k + 1) m) (sym w.places-is)
-            (turning_passed c.if-has_bracket.places c.if-has_bracket.on c.lowest-i.result c.edge_at-e.result c.agreement_of-v.result c.agreement_of-v.ensures loop3.k loop3.places loop3.invariant.1 w.if-v-k.false))
+        | then-v-k w ↦ (subst (λ (m : List Place). Turning c.if-has_bracket.places c.if-has_bracket.on c.lowest-i.result.n c.edge_at-e.result (loop3.k + 1) m) (sym w.places-is)
+            (turning_heard c.if-has_bracket.places c.if-has_bracket.on c.lowest-i.result.n c.edge_at-e.result c.agreement_of-v.result c.agreement_of-v.ensures loop3.k loop3.places loop3.invariant.1 test3.true w.if-v-k.true w.heard.result w.heard.ensures))
+        | else-v-k w ↦ (subst (λ (m : List Place). Turning c.if-has_bracket.places c.if-has_bracket.on c.lowest-i.result.n c.edge_at-e.result (loop3.k + 1) m) (sym w.places-is)
+            (turning_passed c.if-has_bracket.places c.if-has_bracket.on c.lowest-i.result.n c.edge_at-e.result c.agreement_of-v.result c.agreement_of-v.ensures loop3.k loop3.places loop3.invariant.1 w.if-v-k.false))
       ],
     )
-
-pub marked-requires-else-marked : goal.marked-requires-else-marked
-marked-requires-else-marked c =
-    c.lowest-i.ensures.below
-
-pub which-j-requires : goal.which-j-requires
-which-j-requires c =
-    c.lowest-i.ensures.below
 
 pub loop-todo-smaller : goal.loop-todo-smaller
 loop-todo-smaller c =
     let loop2 = c.loop-todo in
     let loop = c.loop-done in
     let args = c.args in
-    turn-taken loop2.from c.lowest-i.result loop2.places c.if-marked.places loop2.risk c.if-has_bracket.risk (first-from (machine_in loop.places loop.counts) c.span_of-s.result c.block_length-r.result _ args.recent.now args.base args.values.now loop.at loop.out loop2.out loop2.places loop2.on loop2.risk loop2.counts loop2.at loop2.todo loop2.from loop2.invariant.0 c.lowest-i.result c.tick_of-u.result.0 c.lowest-i.ensures c.tick_of-u.ensures.is) c.lowest-i.ensures.below
+    turn-taken loop2.from c.lowest-i.result.n loop2.places c.if-marked.places loop2.risk c.if-has_bracket.risk (first-from (machine_in loop.places loop.counts) c.span_of-s.result c.block_length-r.result _ args.recent.now args.base args.values.now loop.at loop.out loop2.out loop2.places loop2.on loop2.risk loop2.counts loop2.at loop2.todo loop2.from loop2.invariant.0 c.lowest-i.result.n c.tick_of-u.result.0 c.lowest-i.ensures c.tick_of-u.ensures.is) c.lowest-i.ensures.below
 
 pub loop-todo-preserved : goal.loop-todo-preserved
 loop-todo-preserved c =
@@ -241,41 +199,41 @@ loop-todo-preserved c =
     let loop = c.loop-done in
     let args = c.args in
     let size : length loop2.places ≡ 4 = loop2.invariant.0.size in
-    let f2 = second_in c.span_of-s.result c.lowest-i.result c.tick_of-u.result.0 args.recent.now args.base args.values.now in
-    let low : f2.tick.0 < 4294967296 = omega (arith, second-low c.span_of-s.result c.lowest-i.result, c.tick_of-u.ensures.below) in
+    let f2 = second_in c.span_of-s.result c.lowest-i.result.n c.tick_of-u.result.0 args.recent.now args.base args.values.now in
+    let low : f2.tick.0 < 4294967296 = omega (arith, second-low c.span_of-s.result c.lowest-i.result.n, c.tick_of-u.ensures.below) in
     let both : TwiceWord c.if-has_bracket.on c.if-has_bracket.both =
     elim c.if-has_bracket.branch [
-      | then-has_bracket+else-k-lt4 w ↦ twice_as w.if-opens.on c.if-has_bracket.on w.if-opens.both c.if-has_bracket.both
-          (elim w.if-opens.branch [
-            | then-opens v ↦ twice_as v.with_word-on.result w.if-opens.on v.twice-both-then-opens.result w.if-opens.both v.twice-both-then-opens.ensures v.on-is v.both-is
-            | else-opens v ↦ twice_as loop2.on w.if-opens.on loop2.both w.if-opens.both loop2.invariant.1 v.on-is v.both-is
+      | then-has_bracket w ↦ twice_as w.match-y.on c.if-has_bracket.on w.match-y.both c.if-has_bracket.both
+          (elim w.match-y.branch [
+            | in-Opens v ↦ twice_as v.with_word-on.result w.match-y.on v.twice-both-in-Opens.result w.match-y.both v.twice-both-in-Opens.ensures v.on-is v.both-is
+            | in-Sidelobe v ↦ twice_as loop2.on w.match-y.on loop2.both w.match-y.both loop2.invariant.1 v.on-is v.both-is
           ])
           w.on-is w.both-is
       | else-has_bracket w ↦ twice_as loop2.on c.if-has_bracket.on loop2.both c.if-has_bracket.both loop2.invariant.1 w.on-is w.both-is
     ] in
-    let stood : Stood c.span_of-s.result c.lowest-i.result c.tick_of-u.result.0 args.recent.now args.base args.values.now c.has_bracket.result c.has_bracket.ensures c.block_length-r.result c.edge_at-e.result loop2.places loop2.on loop2.risk loop2.counts loop2.todo loop2.from loop2.invariant.0.todos c.lowest-i.ensures c.if-has_bracket.places c.if-has_bracket.on c.if-has_bracket.risk c.if-has_bracket.counts c.if-has_bracket.todo =
+    let stood : Stood c.span_of-s.result c.lowest-i.result.n c.tick_of-u.result.0 args.recent.now args.base args.values.now c.has_bracket.result c.has_bracket.ensures c.block_length-r.result c.edge_at-e.result loop2.places loop2.on loop2.risk loop2.counts loop2.todo loop2.from loop2.invariant.0.todos c.lowest-i.ensures c.if-has_bracket.places c.if-has_bracket.on c.if-has_bracket.risk c.if-has_bracket.counts c.if-has_bracket.todo =
     elim c.if-has_bracket.branch [
-      | then-has_bracket+else-k-lt4 w ↦ stood_bracketed c.span_of-s.result c.lowest-i.result c.tick_of-u.result.0 args.recent.now args.base args.values.now c.has_bracket.result c.has_bracket.ensures c.block_length-r.result c.edge_at-e.result loop2.places loop2.on loop2.risk loop2.counts loop2.todo loop2.from loop2.invariant.0.todos c.lowest-i.ensures f2
-          (second_as c.span_of-s.result c.lowest-i.result c.tick_of-u.result.0 args.recent.now args.base args.values.now c.has_bracket.result c.has_bracket.ensures w.if-has_bracket.true f2 refl)
-          c.if-has_bracket.places c.if-has_bracket.on c.if-has_bracket.risk c.if-has_bracket.counts c.if-has_bracket.todo c.top-due.result w.above.result w.wanted-todo-then-has_bracket.result w.if-opens.places w.if-opens.on w.if-opens.risk w.counted-counts.result
-          (elim w.if-opens.branch [
-            | then-opens v ↦ bracketed_as loop2.places loop2.on loop2.risk loop2.counts c.lowest-i.result c.edge_at-e.result f2 _ w.if-opens.places v.with_word-on.result w.if-opens.on v.with_word-risk.result w.if-opens.risk w.counted-counts.result
-                (bracketed_opens loop2.places loop2.on loop2.risk loop2.counts c.lowest-i.result c.edge_at-e.result f2 size c.lowest-i.ensures.below low w.firsts_of-f.result w.firsts_of-f.ensures w.is_busy.result w.is_busy.ensures w.outcome_of-y.result
-                (second_outcome c.span_of-s.result c.lowest-i.result c.tick_of-u.result.0 args.recent.now args.base args.values.now w.firsts_of-f.result loop2.on loop2.risk c.edge_at-e.result w.second_tick-w.result.0 w.second_main.result w.is_busy.result w.outcome_of-y.result w.second_tick-w.ensures.is w.second_main.ensures w.outcome_of-y.ensures) w.removed_by-k.result w.removed_by-k.ensures (λ z. omega (arith, w.if-k-lt4.false)) w.counted-counts.result w.counted-counts.ensures w.opens.result w.opens.ensures v.if-opens.true v.opened-reply.result
-                (subst (λ (q : Pulse). OpenedPost w.firsts_of-f.result loop2.on c.lowest-i.result c.edge_at-e.result q v.opened-reply.result) v.second_at-f2.ensures v.opened-reply.ensures) v.free-j.result v.free-j.ensures.is v.free-j.ensures.below v.open_cover.result v.open_phantom.result v.open_cover.ensures v.open_phantom.ensures v.with_word-on.result v.with_word-risk.result v.with_word-on.ensures v.with_word-risk.ensures _ refl) v.places-is v.on-is v.risk-is
-            | else-opens v ↦ bracketed_as loop2.places loop2.on loop2.risk loop2.counts c.lowest-i.result c.edge_at-e.result f2 loop2.places w.if-opens.places loop2.on w.if-opens.on loop2.risk w.if-opens.risk w.counted-counts.result (bracketed_shut loop2.places loop2.on loop2.risk loop2.counts c.lowest-i.result c.edge_at-e.result f2 size c.lowest-i.ensures.below low w.firsts_of-f.result w.firsts_of-f.ensures w.is_busy.result w.is_busy.ensures w.outcome_of-y.result
-                (second_outcome c.span_of-s.result c.lowest-i.result c.tick_of-u.result.0 args.recent.now args.base args.values.now w.firsts_of-f.result loop2.on loop2.risk c.edge_at-e.result w.second_tick-w.result.0 w.second_main.result w.is_busy.result w.outcome_of-y.result w.second_tick-w.ensures.is w.second_main.ensures w.outcome_of-y.ensures) w.removed_by-k.result w.removed_by-k.ensures (λ z. omega (arith, w.if-k-lt4.false)) w.counted-counts.result w.counted-counts.ensures w.opens.result w.opens.ensures v.if-opens.false) v.places-is v.on-is v.risk-is
+      | then-has_bracket w ↦ stood_bracketed c.span_of-s.result c.lowest-i.result.n c.tick_of-u.result.0 args.recent.now args.base args.values.now c.has_bracket.result c.has_bracket.ensures c.block_length-r.result c.edge_at-e.result loop2.places loop2.on loop2.risk loop2.counts loop2.todo loop2.from loop2.invariant.0.todos c.lowest-i.ensures f2
+          (second_as c.span_of-s.result c.lowest-i.result.n c.tick_of-u.result.0 args.recent.now args.base args.values.now c.has_bracket.result c.has_bracket.ensures w.if-has_bracket.true f2 refl)
+          c.if-has_bracket.places c.if-has_bracket.on c.if-has_bracket.risk c.if-has_bracket.counts c.if-has_bracket.todo c.top-due.result w.above.result w.wanted-todo-then-has_bracket.result w.match-y.places w.match-y.on w.match-y.risk w.counted-counts.result
+          (elim w.match-y.branch [
+            | in-Opens v ↦ bracketed_as loop2.places loop2.on loop2.risk loop2.counts c.lowest-i.result.n c.edge_at-e.result f2 _ w.match-y.places v.with_word-on.result w.match-y.on v.with_word-risk.result w.match-y.risk w.counted-counts.result
+                (bracketed_opens loop2.places loop2.on loop2.risk loop2.counts c.lowest-i.result.n c.edge_at-e.result f2 size c.lowest-i.ensures.below low w.firsts_of-f.result w.firsts_of-f.ensures w.is_busy.result w.is_busy.ensures w.outcome_of-y.result
+                (second_outcome c.span_of-s.result c.lowest-i.result.n c.tick_of-u.result.0 args.recent.now args.base args.values.now w.firsts_of-f.result loop2.on loop2.risk c.edge_at-e.result w.second_tick-w.result.0 w.second_main.result w.is_busy.result w.outcome_of-y.result w.second_tick-w.ensures.is w.second_main.ensures w.outcome_of-y.ensures) (ap removed_by v.in-Opens.is) w.counted-counts.result w.counted-counts.ensures (ap is_opening v.in-Opens.is) v.opened-reply.result
+                (subst (λ (q : Pulse). OpenedPost w.firsts_of-f.result loop2.on c.lowest-i.result.n c.edge_at-e.result q v.opened-reply.result) v.second_at-f2.ensures v.opened-reply.ensures) v.free-j.result v.free-j.ensures.is v.free-j.ensures.below v.open_cover.result v.open_phantom.result v.open_cover.ensures v.open_phantom.ensures v.with_word-on.result v.with_word-risk.result v.with_word-on.ensures v.with_word-risk.ensures _ refl) v.places-is v.on-is v.risk-is
+            | in-Sidelobe v ↦ bracketed_as loop2.places loop2.on loop2.risk loop2.counts c.lowest-i.result.n c.edge_at-e.result f2 loop2.places w.match-y.places loop2.on w.match-y.on loop2.risk w.match-y.risk w.counted-counts.result (bracketed_shut loop2.places loop2.on loop2.risk loop2.counts c.lowest-i.result.n c.edge_at-e.result f2 size c.lowest-i.ensures.below low w.firsts_of-f.result w.firsts_of-f.ensures w.is_busy.result w.is_busy.ensures w.outcome_of-y.result
+                (second_outcome c.span_of-s.result c.lowest-i.result.n c.tick_of-u.result.0 args.recent.now args.base args.values.now w.firsts_of-f.result loop2.on loop2.risk c.edge_at-e.result w.second_tick-w.result.0 w.second_main.result w.is_busy.result w.outcome_of-y.result w.second_tick-w.ensures.is w.second_main.ensures w.outcome_of-y.ensures) (leaves_places _ v.in-Sidelobe.is).0 w.counted-counts.result w.counted-counts.ensures (leaves_places _ v.in-Sidelobe.is).1) v.places-is v.on-is v.risk-is
           ])
           c.top-due.ensures w.above.ensures w.wanted-todo-then-has_bracket.ensures w.places-is w.counts-is w.on-is w.risk-is w.todo-is
-      | else-has_bracket w ↦ stood_plain c.span_of-s.result c.lowest-i.result c.tick_of-u.result.0 args.recent.now args.base args.values.now c.has_bracket.result c.has_bracket.ensures c.block_length-r.result c.edge_at-e.result loop2.places loop2.on loop2.risk loop2.counts loop2.todo loop2.from loop2.invariant.0.todos c.lowest-i.ensures w.if-has_bracket.false c.if-has_bracket.places c.if-has_bracket.on c.if-has_bracket.risk c.if-has_bracket.counts c.if-has_bracket.todo w.without_lowest-todo.result w.without_lowest-todo.ensures w.places-is w.counts-is w.on-is w.risk-is w.todo-is
+      | else-has_bracket w ↦ stood_plain c.span_of-s.result c.lowest-i.result.n c.tick_of-u.result.0 args.recent.now args.base args.values.now c.has_bracket.result c.has_bracket.ensures c.block_length-r.result c.edge_at-e.result loop2.places loop2.on loop2.risk loop2.counts loop2.todo loop2.from loop2.invariant.0.todos c.lowest-i.ensures w.if-has_bracket.false c.if-has_bracket.places c.if-has_bracket.on c.if-has_bracket.risk c.if-has_bracket.counts c.if-has_bracket.todo w.without_lowest-todo.result w.without_lowest-todo.ensures w.places-is w.counts-is w.on-is w.risk-is w.todo-is
     ] in
-    let dealt : Dealt c.if-has_bracket.places c.if-has_bracket.on c.lowest-i.result c.edge_at-e.result c.if-marked.places =
+    let dealt : Dealt c.if-has_bracket.places c.if-has_bracket.on c.lowest-i.result.n c.edge_at-e.result c.if-marked.places =
     elim c.if-marked.branch [
-      | then-marked+else-loop-k-test w ↦ (subst (λ (m : List Place). Dealt c.if-has_bracket.places c.if-has_bracket.on c.lowest-i.result c.edge_at-e.result m) (sym w.places-is) (deals_four c.if-has_bracket.places w.loop-k.places c.if-has_bracket.on c.lowest-i.result c.edge_at-e.result (stood.size ∙ size) w.loop-k.k (omega (arith, w.loop-k.invariant.0, w.loop-k-test.false)) w.loop-k.invariant.1))
-      | else-marked+then-marked-2 w ↦ (subst (λ (m : List Place). Dealt c.if-has_bracket.places c.if-has_bracket.on c.lowest-i.result c.edge_at-e.result m) (sym w.places-is) (deals_one c.if-has_bracket.places c.if-has_bracket.on c.lowest-i.result c.edge_at-e.result (stood.size ∙ size) c.if-has_bracket.both w.any_word.result w.which-j.result c.marked.result w.marked-else-marked.result w.speaks.result w.heard-then-marked-2.result both c.marked.ensures w.if-marked.false w.any_word.ensures w.marked-else-marked.ensures w.if-marked-2.true w.which-j.ensures.is w.speaks.ensures w.heard-then-marked-2.ensures))
-      | else-marked+else-marked-2 w ↦ (subst (λ (m : List Place). Dealt c.if-has_bracket.places c.if-has_bracket.on c.lowest-i.result c.edge_at-e.result m) (sym w.places-is) (deals_none c.if-has_bracket.places c.if-has_bracket.on c.lowest-i.result c.edge_at-e.result (stood.size ∙ size) w.any_word.result w.marked-else-marked.result w.any_word.ensures w.marked-else-marked.ensures w.if-marked-2.false))
+      | then-marked+else-loop-k-test w ↦ (subst (λ (m : List Place). Dealt c.if-has_bracket.places c.if-has_bracket.on c.lowest-i.result.n c.edge_at-e.result m) (sym w.places-is) (deals_four c.if-has_bracket.places w.loop-k.places c.if-has_bracket.on c.lowest-i.result.n c.edge_at-e.result (stood.size ∙ size) w.loop-k.k (omega (arith, w.loop-k.invariant.0, w.loop-k-test.false)) w.loop-k.invariant.1))
+      | else-marked+then-marked-2 w ↦ (subst (λ (m : List Place). Dealt c.if-has_bracket.places c.if-has_bracket.on c.lowest-i.result.n c.edge_at-e.result m) (sym w.places-is) (deals_one c.if-has_bracket.places c.if-has_bracket.on c.lowest-i.result.n c.edge_at-e.result (stood.size ∙ size) c.if-has_bracket.both w.any_word.result w.which-j.result c.marked.result w.marked-else-marked.result w.speaks.result w.heard-then-marked-2.result both c.marked.ensures w.if-marked.false w.any_word.ensures w.marked-else-marked.ensures w.if-marked-2.true w.which-j.ensures.is w.speaks.ensures w.heard-then-marked-2.ensures))
+      | else-marked+else-marked-2 w ↦ (subst (λ (m : List Place). Dealt c.if-has_bracket.places c.if-has_bracket.on c.lowest-i.result.n c.edge_at-e.result m) (sym w.places-is) (deals_none c.if-has_bracket.places c.if-has_bracket.on c.lowest-i.result.n c.edge_at-e.result (stood.size ∙ size) w.any_word.result w.marked-else-marked.result w.any_word.ensures w.marked-else-marked.ensures w.if-marked-2.false))
     ] in
-    (work-taken (machine_in loop.places loop.counts) c.span_of-s.result c.block_length-r.result _ args.recent.now args.base args.values.now loop.at loop.out loop2.out loop2.places loop2.on loop2.risk loop2.counts loop2.at loop2.todo loop2.from loop2.invariant.0 c.lowest-i.result c.tick_of-u.result.0 c.lowest-i.ensures c.tick_of-u.ensures.is c.is_over.result c.is_over.ensures c.if-is_over.false c.edge_at-e.result c.edge_at-e.ensures (bracket_in c.span_of-s.result c.lowest-i.result c.tick_of-u.result.0 args.recent.now args.base args.values.now) refl c.if-marked.places c.if-has_bracket.on c.if-has_bracket.risk c.if-has_bracket.counts (stood.visits c.if-marked.places dealt.deal) c.if-has_bracket.todo stood.todos (dealt.size ∙ stood.size ∙ size), both)
+    (work-taken (machine_in loop.places loop.counts) c.span_of-s.result c.block_length-r.result _ args.recent.now args.base args.values.now loop.at loop.out loop2.out loop2.places loop2.on loop2.risk loop2.counts loop2.at loop2.todo loop2.from loop2.invariant.0 c.lowest-i.result.n c.tick_of-u.result.0 c.lowest-i.ensures c.tick_of-u.ensures.is c.is_over.result c.is_over.ensures c.if-is_over.false c.edge_at-e.result c.edge_at-e.ensures (bracket_in c.span_of-s.result c.lowest-i.result.n c.tick_of-u.result.0 args.recent.now args.base args.values.now) refl c.if-marked.places c.if-has_bracket.on c.if-has_bracket.risk c.if-has_bracket.counts (stood.visits c.if-marked.places dealt.deal) c.if-has_bracket.todo stood.todos (dealt.size ∙ stood.size ∙ size), both)
 
 pub loop-t-init : goal.loop-t-init
 loop-t-init c =
@@ -318,14 +276,14 @@ loop-t-smaller c =
     let loop4 = c.loop-t in
     let loop = c.loop-done in
     let args = c.args in
-    hand_less (ended (args.base + (loop.done + c.block_length-r.result) - 179)) loop4.places _ (due-over (get_or loop4.places 0 idle) _ (sym c.none_due-in-loop-t.ensures ∙ c.loop-t-test.true)).1 (four-places _ _ _ _ _ _ _ _ c.kept-in-loop-t.ensures c.kept-in-loop-t-2.ensures c.kept-in-loop-t-3.ensures c.idle_place-in-loop-t.ensures)
+    hand_less (ended (args.base + (loop.done + c.block_length-r.result) - 179)) loop4.places _ (due-over (get_or loop4.places 0 idle) _ (sym c.none_due-in-loop-t.ensures ∙ c.loop-t-test.true)).1 refl
 
 pub loop-t-preserved : goal.loop-t-preserved
 loop-t-preserved c =
     let loop4 = c.loop-t in
     let loop2 = c.loop-todo in
     let args = c.args in
-    hands_more c.block_length-r.result _ args.recent.now args.base args.values.now loop2.counts loop2.out loop2.places loop2.at loop4.out loop4.places loop4.at loop4.invariant (sym c.none_due-in-loop-t.ensures ∙ c.loop-t-test.true) c.hand_one-at-in-loop-t.result _ c.hand_one-at-in-loop-t.auto.out c.hand_one-at-in-loop-t.ensures _ (four-places _ _ _ _ _ _ _ _ c.kept-in-loop-t.ensures c.kept-in-loop-t-2.ensures c.kept-in-loop-t-3.ensures c.idle_place-in-loop-t.ensures)
+    hands_more c.block_length-r.result _ args.recent.now args.base args.values.now loop2.counts loop2.out loop2.places loop2.at loop4.out loop4.places loop4.at loop4.invariant (sym c.none_due-in-loop-t.ensures ∙ c.loop-t-test.true) c.hand_one-at-in-loop-t.result _ c.hand_one-at-in-loop-t.auto.out c.hand_one-at-in-loop-t.ensures _ refl
 
 pub returns : goal.returns
 returns c =

@@ -17,7 +17,7 @@ abbrev pub decreases-loop-todo : goal.decreases-loop-todo
 decreases-loop-todo l = turns_left l.from l.places l.risk
 
 abbrev pub invariant-loop-k : goal.invariant-loop-k
-invariant-loop-k l = (l.k ≤ 4) × Turning l.initial.places l.on l.i l.e l.k l.places
+invariant-loop-k l = (l.k ≤ 4) × Turning l.initial.places l.on l.i.n l.e l.k l.places
 
 abbrev pub decreases-loop-k : goal.decreases-loop-k
 decreases-loop-k l = 4 - l.k

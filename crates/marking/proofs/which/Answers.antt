@@ -1,9 +1,10 @@
 -- `marking::which` meets its contract.
-use native.Mathlib.Omega.{arith}
+use mathlib.Core.Path.{ap₂, ◌∙◌}
+use Prim.Native.Nat.{ℕ, ◌+◌, ◌*◌}
 use Rattle.marking.proofs.Marking.{which_law}
 use Rattle.marking.proofs.which.Goals as goal
 
-pub returns : goal.returns
-returns c =
+pub returns-clause-is : goal.returns-clause-is
+returns-clause-is c =
     let a = c.args in
-    record { is = which_law a.w.b a.w.c a.w.d a.i _ _ c.digit.ensures.is c.digit-2.ensures.is; below = omega arith }
+    ap₂ (λ (x y : ℕ). x + 2 * y) c.from.ensures c.from-2.ensures ∙ which_law a.w.b a.w.c a.w.d a.i.n _ _ c.marked.ensures c.marked-2.ensures

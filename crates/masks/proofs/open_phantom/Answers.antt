@@ -7,4 +7,4 @@ returns-then-not-suspect c = λ q t z. no_suspect q t c.args.suspect c.if-not-su
 pub returns : goal.returns
 returns c =
     let a = c.args in
-    λ q t z. open-phantom_law a.i q t a.suspect c.if-not-suspect.false c.requires z
+    λ q t z. open-phantom_law a.i.n q t a.suspect c.if-not-suspect.false c.args.i.below z

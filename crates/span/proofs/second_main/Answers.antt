@@ -8,4 +8,4 @@ returns c =
     let sooner = c.sooner in
     let a = c.args in
     let good = c.well_formed in
-    second_is a.s.at168 a.s.at167 a.i (omega (arith, good)) (omega (arith, good)) c.requires _ a.s.main168 a.s.main167 a.s.main169 sooner.result later.result sooner.ensures later.ensures c.marked.ensures
+    second_is a.s.at168 a.s.at167 a.i.n (omega (arith, good)) (omega (arith, good)) c.args.i.below _ a.s.main168 a.s.main167 a.s.main169 sooner.result later.result sooner.ensures later.ensures c.marked.ensures

@@ -1,5 +1,0 @@
--- `marking::without_word` meets its contract.
-use Rattle.marking.proofs.without_word.Goals as goal
-
-pub returns : goal.returns
-returns c = λ i. record { a = c.pick_word.ensures i; b = c.pick_word-2.ensures i; c = c.pick_word-3.ensures i; d = 0 }
