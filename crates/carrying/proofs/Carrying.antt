@@ -4,6 +4,7 @@ use Rattle.processor.specs.declared.Processor.{Processor}
 use Rattle.processor.specs.State.{Sweep, Made}
 use Rattle.ends.specs.Ends.{LinePast}
 use Rattle.lines.specs.declared.scan.Scan.{Scan}
+use Rattle.rules.specs.declared.Refusal.{Refusal}
 use Rattle.lines.specs.declared.scan.Scan.TheVariants.{Rest, Stopped, Full}
 use Rattle.lines.specs.Survey.{lines_in}
 use Rattle.lines.specs.Post.{afterwards}
@@ -71,7 +72,7 @@ module _ (p₀ : Processor) (held : List ℕ) where
         }
 
     -- a refusal: this is all
-    pub carried-over : (k used : ℕ) → r.scan ≡ Stopped k → (input : List ℕ) → CarriedPost p₀ held (Err (Refused k used)) input
+    pub carried-over : (k : Refusal) (used : ℕ) → r.scan ≡ Stopped k → (input : List ℕ) → CarriedPost p₀ held (Err (Refused k used)) input
     carried-over k used e input =
         record { inside = tt; new = both; left = λ σ m R. (joined (Stopped k) e σ m).same R tt ∙ append-nil (both σ m) }
 

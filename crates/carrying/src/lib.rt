@@ -8,6 +8,7 @@ ghost use Rattle.carrying.specs.Post.{Prints, PrintPost, PassPost, CarriedPost, 
 
 use lines::{Scan, Scanned, scan_lines};
 use processor::Processor;
+use rules::Refusal;
 use std::error::Error;
 use std::io::{ErrorKind, Write};
 use std::{fmt, io};
@@ -24,7 +25,7 @@ pub struct Survey {
 // or the output has no room for a line.
 #[derive(Clone, Copy, Debug)]
 pub enum Stop {
-    Refused(u8, u64),
+    Refused(Refusal, u64),
     Unread,
     CannotRead(io::Error),
     CannotWrite(io::Error),
@@ -36,7 +37,10 @@ impl fmt::Display for Stop {
 
     fn fmt<W: fmt::Write>(&self, f: &mut fmt::Formatter<W>) -> fmt::Result {
         match self {
-            Stop::Refused(number, used) => write!(f, "refusal {number} at byte {used}"),
+            Stop::Refused(refusal, used) => {
+                let number = u8::from(*refusal);
+                write!(f, "refusal {number} at byte {used}")
+            }
             Stop::Unread => f.write_str("nobody reads"),
             Stop::CannotRead(error) => write_failed(f, "cannot read", error),
             Stop::CannotWrite(error) => write_failed(f, "cannot write", error),
@@ -147,7 +151,7 @@ pub fn carried(
         from = r.from;
         match r.scan {
             Scan::Full => {}
-            Scan::Stopped(number) => return Err(Stop::Refused(number, more(s.used, from))),
+            Scan::Stopped(refusal) => return Err(Stop::Refused(refusal, more(s.used, from))),
             Scan::Rest => {
                 let kept = to_start(input, from, n);
                 return Ok(Survey {

@@ -36,17 +36,17 @@ fn last(rt: &impl Print, s: Survey, rest: &[u8], output: &mut [u8]) -> Result<()
     if n == 0 {
         return Ok(());
     }
-    let Step::Stops(number, at) = rest_step(output, 0) else {
+    let Step::Stops(refusal, at) = rest_step(output, 0) else {
         return Ok(());
     };
     let r = Scanned {
-        scan: Scan::Stopped(number),
+        scan: Scan::Stopped(refusal),
         processor: s.processor,
         from: n,
         at,
     };
     print(rt, s.processor, rest, 0, true, r, &output[..at])?;
-    Err(Stop::Refused(number, more(s.used, n)))
+    Err(Stop::Refused(refusal, more(s.used, n)))
 }
 
 // Carries out what a read gives; none goes on from the end of the input.

@@ -29,7 +29,7 @@ pub returns-in-Stopped : goal.returns-in-Stopped
 returns-in-Stopped g c =
     let a = c.args in
     let l = c.loop in
-    let P : List ℕ → Type 0 = λ x. CarriedPost a.s.processor (take a.n x) (Err (Refused c.in-Stopped.number c.more.result)) l.input in
+    let P : List ℕ → Type 0 = λ x. CarriedPost a.s.processor (take a.n x) (Err (Refused c.in-Stopped.refusal c.more.result)) l.input in
     subst P l.invariant.0 (carried-over a.s.processor _ l.p l.from l.invariant.1 c.in_ok-r.r c.in_ok-r.ensures _ c.more.result c.in-Stopped.is l.input)
 
 pub returns : goal.returns
