@@ -2,6 +2,7 @@
 use Rattle.std.proofs.Common.{◌≡◌, ℕ, ◌≤◌, false, List, [], ◌++◌, length, take, drop, sym, refl, ap, ◌∙◌, subst, append_assoc, append-nil, arith, length-take-le}
 use Rattle.processor.specs.declared.Processor.{Processor}
 use Rattle.processor.specs.State.{Sweep, Made}
+use Rattle.rules.specs.declared.Refusal.{Refusal}
 use Rattle.ends.specs.Ends.{LinePast}
 use Rattle.lines.specs.declared.scan.Scan.{Scan}
 use Rattle.lines.specs.declared.scan.Scan.TheVariants.{Rest, Stopped, Full as NoRoom}
@@ -63,7 +64,7 @@ module _ (p₀ : Processor) (held : List ℕ) where
         }
 
     -- a refusal: this is all
-    pub carried-over : (k : ℕ) → r.scan ≡ Stopped k → (held₀ : List ℕ) → held ≡ held₀ → (x : Survey) (input : List ℕ) → x ≡ ended_as Over r.processor → CarriedPost p₀ held₀ x input
+    pub carried-over : (k : Refusal) → r.scan ≡ Stopped k → (held₀ : List ℕ) → held ≡ held₀ → (x : Survey) (input : List ℕ) → x ≡ ended_as Over r.processor → CarriedPost p₀ held₀ x input
     carried-over k e held₀ s x input is =
         subst (λ (y : List ℕ). CarriedPost p₀ y x input) s
         (subst (λ (y : Survey). CarriedPost p₀ held y input) (sym is)

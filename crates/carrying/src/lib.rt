@@ -207,8 +207,8 @@ pub fn carried(
             Scan::Full => {
                 turns -= 1;
             }
-            Scan::Stopped(number) => {
-                report(rt, number, more(s.used, from));
+            Scan::Stopped(refusal) => {
+                report(rt, u8::from(refusal), more(s.used, from));
                 return ended(Course::Over, p);
             }
         }

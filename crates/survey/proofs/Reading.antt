@@ -4,6 +4,7 @@ use borrow.Rule.Slice.PartMut.{put_mid, take_put}
 use Rattle.rules.specs.Buffers.{over-at}
 use Rattle.processor.specs.declared.Processor.{Processor}
 use Rattle.processor.specs.State.{Sweep, none, idle_processor, processor_of, Made}
+use Rattle.rules.specs.declared.Refusal.{Refusal}
 use Rattle.ends.specs.Ends.{LinePast}
 use Rattle.steps.specs.declared.Step.{Step}
 use Rattle.steps.specs.declared.Step.TheVariants.{Stops}
@@ -25,7 +26,7 @@ use Rattle.survey.specs.Post.{Going, Stands, ReadPost}
 
 -- what is left at the end of the input is refused, and nothing comes behind
 module _ (p : Processor) (l b : List ℕ) (s : Step) (b' : List ℕ) (h : RestPost 0 b s b') (past : LinePast l 0) (some : 0 < length l) where
-  pub rest-prints : (k e n : ℕ) → s ≡ Stops k e → n ≡ length l → Prints p l 0 true (record { scan = Stopped k; processor = p; from = n; at = e }) (take e b')
+  pub rest-prints : (k : Refusal) (e n : ℕ) → s ≡ Stops k e → n ≡ length l → Prints p l 0 true (record { scan = Stopped k; processor = p; from = n; at = e }) (take e b')
   rest-prints k e n is z = record { carries = λ σ m. record { next = σ; made = m; same = λ R t. one σ R t } }
     where
       one : (σ : Sweep) (R : List ℕ) → R ≡ [] → surveyed (lines_in (l ++ R)) σ ≡ take e b' ++ []

@@ -70,17 +70,17 @@ fn last(rt: &(impl Print + Eprint), p: Processor, used: u64, rest: &[u8], output
         return;
     }
     let how = rest_step(output, 0);
-    let Step::Stops(number, at) = how else {
+    let Step::Stops(refusal, at) = how else {
         return;
     };
     let r = Scanned {
-        scan: Scan::Stopped(number),
+        scan: Scan::Stopped(refusal),
         processor: p,
         from: n,
         at,
     };
     if print(rt, p, rest, 0, true, r, &output[..at]) {
-        report(rt, number, more(used, n));
+        report(rt, u8::from(refusal), more(used, n));
     }
 }
 
