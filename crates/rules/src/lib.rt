@@ -125,7 +125,7 @@ pub struct Totals {
 }
 
 // Why a call or a line is turned down.
-#[derive(Clone, Copy)]
+#[derive(Clone, Copy, Debug)]
 pub enum Refusal {
     Mode,
     Azimuth,
