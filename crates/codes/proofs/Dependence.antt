@@ -10,7 +10,6 @@ use lib.IntN.{ℤ}
 use lib.ListN.{get_or, take, drop}
 use lib.Signed.{lt_z}
 use Rattle.rules.specs.Lists.{any}
-use Rattle.rules.proofs.Truth.{impossible}
 use Rattle.codes.specs.Pulses.{D1, digits_at, any_clear}
 use Rattle.codes.specs.Gray.{gray}
 use Rattle.codes.specs.declared.Unread.{Unread}
@@ -22,20 +21,14 @@ use Rattle.codes.specs.Depends.{UnsureExactly, Depends}
 
 -- ---- unsure
 
-altitude-apart : (b : Bool) (z : ℤ) → cond b (Err NoAltitude) (Ok z) ≡ Err Unsure → ⊥
-altitude-apart true z q = cc
-altitude-apart false z q = cc
-
 altitude-unsure : (u b : Bool) (z : ℤ) → (cond u (Err Unsure) (cond b (Err NoAltitude) (Ok z)) ≡ Err Unsure) ↔ (u ≡ true)
 altitude-unsure true b z = ((λ q. refl), (λ q. refl))
-altitude-unsure false b z = ((λ q. absurd (altitude-apart b z q)), (λ q. absurd (impossible (sym q))))
-
-identity-apart : (s : Squawk) → Some s ≡ None → ⊥
-identity-apart s q = cc
+altitude-unsure false true z = ((λ q. cc), (λ q. cc))
+altitude-unsure false false z = ((λ q. cc), (λ q. cc))
 
 identity-unsure : (u : Bool) (s : Squawk) → (cond u None (Some s) ≡ None) ↔ (u ≡ true)
 identity-unsure true s = ((λ q. refl), (λ q. refl))
-identity-unsure false s = ((λ q. absurd (identity-apart s q)), (λ q. absurd (impossible (sym q))))
+identity-unsure false s = ((λ q. cc), (λ q. cc))
 
 pub unsure_exactly : UnsureExactly
 unfolding altitude identity

@@ -13,7 +13,7 @@ use Rattle.std.specs.Prelude.{Some, None, Ok, Err}
 use Rattle.std.proofs.lemmas.Int.{ints}
 use Rattle.std.proofs.lemmas.Bool.Decides.{nat_tests}
 use Rattle.codes.specs.declared.Unread.TheVariants.{Unsure, NoAltitude}
-use Rattle.rules.specs.Samples.{odd, bit}
+use Rattle.rules.specs.Samples.{bit}
 use Rattle.rules.proofs.Truth.{or_left, or_right, or-second}
 use Rattle.codes.specs.Pulses.{C1, C2, C4, D1, digit, digits_at, any_clear, word_of}
 use Rattle.codes.specs.Gray.{gray, gray_from, gray_of}
@@ -44,11 +44,7 @@ code_of-feet s l m = rw (has_code-feet s l m, steps_to-feet s l)
 -- ---- h, forth and back
 
 back-turned : (n h : ℕ) → 1 ≤ h → h ≤ 5 → turned n (turned n h) ≡ h
-back-turned n h l m = go (odd n)
-  where
-    go : (b : Bool) → cond b (6 - cond b (6 - h) h) (cond b (6 - h) h) ≡ h
-    go true = omega arith
-    go false = refl
+back-turned n h l m = grind (arith, nat_tests)
 
 -- a number from 1 to 5
 data Five : ℕ → Type 0 where

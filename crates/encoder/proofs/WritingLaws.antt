@@ -1,13 +1,12 @@
--- The code of a number of feet, by the tests that the code makes in their order.
+-- The word of so many steps, from the words of n and of h; and the eight pulses of n.
 use Prim.Native.Nat.{ℕ, suc, ◌+◌, ◌-◌, ◌*◌, ◌/◌, ◌%◌, ◌^◌, ◌≤◌}
 use native.Mathlib.Omega.{arith}
 use native.Mathlib.Nat.{div-one}
 use mathlib.Core.Path.{◌≡◌, sym, ap, ◌∙◌}
-use mathlib.Core.Bool.{Bool, true, false, cond}
 use mathlib.Core.List.{[], ◌∷◌, ◌++◌}
 use lib.Bits.{bit_xor}
+use Rattle.std.proofs.lemmas.Bool.Decides.{nat_tests}
 use lib.ListN.{get_or}
-use Rattle.rules.specs.Samples.{odd}
 use Rattle.codes.specs.Pulses.{word_of}
 use Rattle.codes.proofs.GrayLaws.{gray-digit}
 use Rattle.codes.specs.Gray.{gray_of}
@@ -16,11 +15,7 @@ use Rattle.codes.specs.Writing.{group_of, written}
 
 -- h counted forth or back is one of 1 to 5
 pub turned-least : (n h : ℕ) → 1 ≤ h → h ≤ 5 → (1 ≤ turned n h) × (turned n h ≤ 5)
-turned-least n h l m = go (odd n)
-  where
-    go : (b : Bool) → (1 ≤ cond b (6 - h) h) × (cond b (6 - h) h ≤ 5)
-    go true = (omega arith, omega arith)
-    go false = (l, m)
+turned-least n h l m = (grind (arith, nat_tests), grind (arith, nat_tests))
 
 -- eight digits and three make a word of eleven
 joined : (d₇ d₆ d₅ d₄ d₃ d₂ d₁ d₀ c₁ c₂ c₄ : ℕ)
@@ -33,11 +28,6 @@ gray-at n k = (n / 2 ^ k + n / 2 ^ suc k) % 2
 
 -- s - 1 steps are n times five and h - 1; the code found a and b, the words of n and of h as it is counted
 module _ (s : ℕ) {t : ℕ} (e : t ≡ turned ((s - 1) / 5) ((s - 1) % 5 + 1)) where
-  pub one-to-five : (1 ≤ t) × (t ≤ 5)
-  one-to-five =
-      let l = turned-least ((s - 1) / 5) ((s - 1) % 5 + 1) (omega arith) (omega arith) in
-      (omega (arith, e, l.0), omega (arith, e, l.1))
-
   pub word_found : {a b : ℕ} → a ≡ word_of eight (gray_of 8 ((s - 1) / 5)) → b ≡ word_of three (group_of t) → a + b ≡ written s
   unfolding written gray-at
   word_found {a} {b} f g =

@@ -14,11 +14,15 @@ use codes::pulses::*;
 fn steps_of(feet: i32) -> Option<u16>
     ensures { result ≡ (if has_code feet then Some (steps_to feet) else None) }
 {
-    if feet < -1000 || 126700 < feet || feet % 100 != 0 {
+    if feet < -1000 || 126700 < feet {
+        return None;
+    }
+    let above = feet + 1300;
+    if above % 100 != 0 {
         return None;
     }
     // Stays: From widens alone, and u16::try_from(..).unwrap() is no plainer than a cast that is proved to fit.
-    Some(((feet + 1300) / 100) as u16)
+    Some((above / 100) as u16)
 }
 
 // The eight pulses that are the Gray code of n: in binary, n with its half laid over it.

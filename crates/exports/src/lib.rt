@@ -1,4 +1,5 @@
 // The answers as numbers, for programs in other languages.
+// Stays: C has no Option and no Result, so in the four exported functions a number stands for each case (specs/Numbers.antt).
 #![tactic(auto)]
 
 ghost use Rattle.std.specs.Prelude.{◌≡◌};
@@ -13,6 +14,7 @@ use codes::{Meaning, Squawk, Unread, identity};
 use encoder::code_of;
 
 // Feet; 1 for unsure, 2 for no altitude.
+// Stays: an impl of From would stand in the crate of a type, and these numbers are for C alone; so too in of_identity.
 fn of_altitude(x: Result<i32, Unread>) -> i32
     ensures { result ≡ altitude_number_lem x }
 {
