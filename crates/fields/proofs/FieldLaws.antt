@@ -1,7 +1,6 @@
 -- The bits of a float that is no number.
-use Prim.Native.Nat.{ℕ}
 use mathlib.Core.Path.{◌≡◌, refl, sym}
-use mathlib.Core.Bool.{Bool, true, false, true≢false}
+use mathlib.Core.Bool.{true, false, true≢false}
 use lib.Ieee.{Float, nan, inf, fin, binary64, is_nan, to_bits}
 
 never : false ≡ true → ⊥

@@ -14,13 +14,15 @@ pub fn write_record(out: &mut [u8], at: usize, r: Reply)
     requires { at + record_size ≤ length out.old }
     ensures { out.new ≡ over-at (record_of r) at out.old }
 {
-    let range = range_of(r.f1).0 as u16;
     let f = r.reference;
+    let range = range_of(r.f1).0 as u16;
+    let sure = confidence_of(r.word.unsure);
+    let flags = flags_of(r.marks, f.estimate);
     let bits = bits_of(level_of(f.estimate));
     put(out, at, &range.to_be_bytes());
     put(out, at + 2, &r.word.code.to_be_bytes());
-    put(out, at + 4, &confidence_of(r.word.unsure).to_be_bytes());
-    put(out, at + 6, &[flags_of(r.marks, f.estimate)]);
+    put(out, at + 4, &sure.to_be_bytes());
+    put(out, at + 6, &[flags]);
     put(out, at + 7, &[(f.n % 256) as u8]);
     put(out, at + 8, &f.s.to_be_bytes());
     put(out, at + 10, &bits.to_be_bytes());

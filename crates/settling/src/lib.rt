@@ -91,7 +91,7 @@ pub fn heard(p: Place, e: Pulse, own: bool, other: bool) -> Place
     ensures { result ≡ heard_by e own other p }
 {
     match p.slot {
-        Slot::Idle => p,
+        Slot::Idle => Place { slot: Slot::Idle },
         Slot::Open(r) => Place {
             slot: Slot::Open(hear(r, e, own, other)),
         },
