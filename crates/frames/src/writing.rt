@@ -1,5 +1,5 @@
 // Lines 11, 12 and 1f: what a survey prints. Lines that do not fit into the rest of the buffer are not written.
-ghost use Rattle.std.specs.Prelude.{◌+◌, ◌*◌, ◌≤◌, min, ◌≡◌, leb, length};
+ghost use Rattle.std.specs.Prelude.{◌+◌, ◌*◌, ◌≤◌, ◌≡◌, leb, length};
 ghost use Rattle.rules.specs.Records.{record_size};
 ghost use Rattle.rules.specs.Buffers.{over-at};
 ghost use Rattle.frames.specs.Writing.{record_lines, first_lines, totals_bytes_lem, totals_line_lem, refusal_line_lem, reply_line_size};
@@ -18,12 +18,9 @@ fn put_records(records: &[u8], n: usize, out: &mut [u8], at: usize)
     requires { (record_size * n ≤ length records.now) × (at + reply_line_size * n ≤ length out.old) }
     ensures { out.new ≡ over-at (record_lines n records.now) at out.old }
 {
-    let mut k: usize = 0;
-    while k < n {
-        let from = RECORD * k;
-        let to = from + RECORD;
-        put_line(17, &records[from..to], out, at + REPLY_LINE * k);
-        k += 1;
+    let (all, _) = records.as_chunks::<RECORD>();
+    for (k, record) in all[..n].iter().enumerate() {
+        put_line(17, record, out, at + REPLY_LINE * k);
     }
 }
 
@@ -38,21 +35,11 @@ pub fn has_room(n: usize, out: &[u8], at: usize) -> bool
     n <= room - at
 }
 
-// At most so many.
-fn least(n: usize, most: usize) -> usize
-    ensures { result ≡ min n most }
-{
-    if n < most {
-        return n;
-    }
-    most
-}
-
 // The first `count` records, or as many as there are, each on a line 11. Answers the place behind them.
 pub fn reply_lines(records: &[u8], count: usize, out: &mut [u8], at: usize) -> usize
     ensures { WritePost (first_lines count records.now) at out.old result out.new }
 {
-    let n = least(count, records.len() / RECORD);
+    let n = count.min(records.len() / RECORD);
     let room = out.len();
     if room < at {
         return at;
@@ -68,20 +55,14 @@ pub fn reply_lines(records: &[u8], count: usize, out: &mut [u8], at: usize) -> u
 pub fn totals_bytes(t: Totals) -> [u8; TOTALS]
     ensures { result ≡ totals_bytes_lem t }
 {
-    [
-        (t.found / 256 % 256) as u8,
-        (t.found % 256) as u8,
-        (t.replies / 256 % 256) as u8,
-        (t.replies % 256) as u8,
-        (t.sidelobe / 256 % 256) as u8,
-        (t.sidelobe % 256) as u8,
-        (t.garbled / 256 % 256) as u8,
-        (t.garbled % 256) as u8,
-        (t.lost / 256 % 256) as u8,
-        (t.lost % 256) as u8,
-        (t.phantoms / 256 % 256) as u8,
-        (t.phantoms % 256) as u8,
-    ]
+    let totals = [
+        t.found, t.replies, t.sidelobe, t.garbled, t.lost, t.phantoms,
+    ];
+    let mut bytes = [0u8; TOTALS];
+    for (k, total) in totals.iter().enumerate() {
+        bytes[2 * k..2 * k + 2].copy_from_slice(&total.to_be_bytes());
+    }
+    bytes
 }
 
 // The totals on a line 12. Answers the place behind it.
