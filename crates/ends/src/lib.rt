@@ -4,7 +4,10 @@
 ghost use Rattle.std.specs.Prelude.{◌+◌, ◌≤◌, ◌≡◌, length};
 ghost use Rattle.ends.specs.Ends.{newline_in, passed_by, EndPost};
 
-// A line ends behind its newline, or behind 259 bytes without one, which are no line any more; or it goes on past the input.
+// So many bytes without a newline are no line any more.
+const MOST: usize = 259;
+
+// A line ends behind its newline, or behind 259 bytes without one; or it goes on past the input.
 #[derive(Clone, Copy)]
 pub enum End {
     At(usize),
@@ -16,13 +19,7 @@ fn has_newline(input: &[u8], from: usize) -> bool
     requires { from + 32 ≤ length input.now }
     ensures { result ≡ newline_in input.now from 32 }
 {
-    let mut seen = false;
-    let mut k: usize = 0;
-    while k < 32 {
-        seen = seen | (input[from + k] == 10);
-        k += 1;
-    }
-    seen
+    input[from..from + 32].contains(&10)
 }
 
 // Passes up to eight times 32 bytes that have no newline.
@@ -31,8 +28,7 @@ fn passed(input: &[u8], from: usize) -> usize
 {
     let n = input.len();
     let mut i = from;
-    let mut k: usize = 0;
-    while k < 8 {
+    for _ in 0..8u32 {
         if n < i {
             return i;
         }
@@ -43,7 +39,6 @@ fn passed(input: &[u8], from: usize) -> usize
             return i;
         }
         i += 32;
-        k += 1;
     }
     i
 }
@@ -52,18 +47,14 @@ fn passed(input: &[u8], from: usize) -> usize
 pub fn line_end(input: &[u8], from: usize) -> End
     ensures { EndPost input.now from result }
 {
-    let n = input.len();
-    let mut i = passed(input, from);
-    let mut left: usize = 259 - (i - from);
-    while i < n {
+    for i in passed(input, from)..input.len() {
         let c = input[i];
-        i += 1;
-        left -= 1;
+        let end = i + 1;
         if c == 10 {
-            return End::At(i);
+            return End::At(end);
         }
-        if left == 0 {
-            return End::At(i);
+        if end - from == MOST {
+            return End::At(end);
         }
     }
     End::Past
