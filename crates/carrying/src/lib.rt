@@ -105,14 +105,8 @@ fn to_start(input: &mut [u8], from: usize, to: usize) -> usize
     requires { (from ≤ to) × (to ≤ length input.old) }
     ensures { ToStartPost from to input.old result input.new }
 {
-    let mut i: usize = 0;
-    let mut k = from;
-    while k < to {
-        input[i] = input[k];
-        i += 1;
-        k += 1;
-    }
-    i
+    input.copy_within(from..to, 0);
+    to - from
 }
 
 // Carries out lines from a place on until they end or the output is full, and prints what they give.

@@ -1,15 +1,15 @@
 -- Where a line ends: the bytes looked at so far have no newline.
 use Prim.Native.Nat.{ℕ, zero, suc, ◌+◌, ◌-◌, ◌≤◌, ◌<◌}
-use native.Mathlib.Numerals.{add-one}
 use native.Mathlib.Omega.{arith}
 use mathlib.Core.Path.{◌≡◌, refl, sym, ap, ◌∙◌, subst}
 use mathlib.Core.Logic.{◌⊎◌, inl, inr}
-use mathlib.Core.Bool.{Bool, true, false, ◌&&◌, ◌||◌, not, cond, or-false, or_assoc, and-false}
-use mathlib.Core.List.{List, [], ◌∷◌, ◌++◌}
+use mathlib.Core.Bool.{Bool, true, false, ◌&&◌, ◌||◌, not, cond, and-false}
+use mathlib.Core.List.{List, [], ◌∷◌}
 use lib.Dec.{ltb, leb, eqb}
-use lib.ListN.{length, get_or, take, drop, length-take, length-drop}
-use lib.Seq.{take-suc, get_or-take, get_or-drop}
+use lib.ListN.{length, get_or, take, drop, length-take}
+use lib.Seq.{get_or-take, get_or-drop}
 use borrow.Author.Tests.{ltb-true, ltb-false, leb-false, le-leb, lt-leb, eqb-true, eqb-false}
+use Rattle.std.specs.List.{list_any}
 use Rattle.rules.specs.Lists.{any, All}
 use Rattle.rules.proofs.Truth.{impossible, or_left, or_right, or-second}
 use Rattle.std.specs.Prelude.{Option, Some, None}
@@ -54,9 +54,9 @@ some_among (c ∷ l) h = go (newline c) refl (some_among l)
         let n = g (or-second (newline c) (any newline l) e h) in
         record { at = suc n.at; start = omega arith; before = omega (arith, n.before); is = n.is }
 
-any_last : (l : List ℕ) (c : ℕ) → any newline (l ++ (c ∷ [])) ≡ (any newline l || newline c)
-any_last [] c = or-false (newline c)
-any_last (d ∷ l) c = ap (λ (b : Bool). newline d || b) (any_last l c) ∙ sym (or_assoc (newline d) (any newline l) (newline c))
+pub any_newline : (l : List ℕ) → list_any (λ c. eqb c 10) l ≡ any newline l
+any_newline [] = refl
+any_newline (c ∷ l) = ap (λ (b : Bool). newline c || b) (any_newline l)
 
 module _ (input : List ℕ) (from n : ℕ) where
   -- what the test says
@@ -74,27 +74,6 @@ module _ (input : List ℕ) (from n : ℕ) where
       let g = some_among (take n l) h in
       let short : g.at < n = omega (arith, g.before, length-take n l) in
       record { at = from + g.at; start = omega arith; before = omega arith; is = sym (get_or-take n l g.at 0 short ∙ get_or-drop from input g.at 0) ∙ g.is }
-
--- k bytes are looked at
-pub record Noticed (input : List ℕ) (from k : ℕ) (seen : Bool) : Type 0 where
-  pub most : k ≤ 32
-  pub is : seen ≡ newline_in input from k
-
-module _ (input : List ℕ) (from : ℕ) where
-  pub noticed_none : Noticed input from 0 false
-  noticed_none = record { most = omega arith; is = refl }
-
-  pub noticed_next : (k : ℕ) (seen : Bool) → k < 32 → from + 32 ≤ length input → Noticed input from k seen → Noticed input from (k + 1) (seen || eqb (get_or input (from + k) 0) 10)
-  noticed_next k seen l room h =
-      let bytes = drop from input in
-      let there : k < length bytes = omega (arith, length-drop from input) in
-      record {
-        most = omega arith;
-        is = rw (add-one, take-suc bytes k 0 there, any_last, get_or-drop, h.is);
-      }
-
-  pub noticed_all : (k : ℕ) (seen : Bool) → 32 ≤ k → Noticed input from k seen → seen ≡ newline_in input from 32
-  noticed_all k seen l h = h.is ∙ ap (newline_in input from) {x = k} {y = 32} (omega (arith, h.most))
 
 -- ---- bytes passed 32 at a time
 
@@ -158,18 +137,16 @@ module _ (input : List ℕ) (from : ℕ) where
 
 -- ---- where a line ends
 
-pub record Looking (input : List ℕ) (from i left : ℕ) : Type 0 where
+pub record Looking (input : List ℕ) (from i : ℕ) : Type 0 where
   pub start : from ≤ i
-  pub sum : left + i ≡ from + 259
-  pub some : 0 < left
+  pub short : i < from + 259
   pub seen : NoNewline input from i
 
 module _ (input : List ℕ) (from : ℕ) where
-  pub looking_start : (i : ℕ) → Passed 8 input from i → Looking input from i (259 - (i - from))
-  looking_start i h =
-      record { start = omega (arith, h.place); sum = omega (arith, h.place, h.most); some = omega (arith, h.place, h.most); seen = h.before }
+  pub looking_start : (i : ℕ) → Passed 8 input from i → Looking input from i
+  looking_start i h = record { start = omega (arith, h.place); short = omega (arith, h.place, h.most); seen = h.before }
 
-  module _ (i left : ℕ) (h : Looking input from i left) (more : i < length input) where
+  module _ (i : ℕ) (h : Looking input from i) (more : i < length input) where
     up_to : NoNewline input from (i + 1 - 1)
     up_to = record { none = λ k a b e. h.seen.none k a (omega arith) e }
 
@@ -182,21 +159,19 @@ module _ (input : List ℕ) (from : ℕ) where
           ends = inl (ap (λ (k : ℕ). get_or input k 0) {x = i + 1 - 1} {y = i} (omega arith) ∙ e);
         }
 
-    pub found-long : left - 1 ≡ 0 → EndPost input from (Some (i + 1))
-    found-long e = record { some = omega (arith, h.start); inside = omega arith; before = up_to; ends = inr (omega (arith, h.sum, h.some, e)) }
+    pub found-long : i + 1 - from ≡ 259 → EndPost input from (Some (i + 1))
+    found-long e = record { some = omega (arith, h.start); inside = omega arith; before = up_to; ends = inr (omega (arith, h.start, e)) }
 
-    pub looking_next : (get_or input i 0 ≡ 10 → ⊥) → (left - 1 ≡ 0 → ⊥) → Looking input from (i + 1) (left - 1)
+    pub looking_next : (get_or input i 0 ≡ 10 → ⊥) → (i + 1 - from ≡ 259 → ⊥) → Looking input from (i + 1)
     looking_next d z =
         record {
           start = omega (arith, h.start);
-          sum = omega (arith, h.sum, h.some);
-          some = omega (arith, z);
+          short = omega (arith, h.short, h.start, z);
           seen = one_byte_more input from i (i + 1) refl h.seen d;
         }
 
-  pub looking_past : (i left : ℕ) → length input ≤ i → Looking input from i left → EndPost input from None
-  looking_past i left l h =
-      record { short = omega (arith, h.sum, h.some); before = record { none = λ k a b e. h.seen.none k a (omega arith) e } }
+  pub looking_past : (i : ℕ) → length input ≤ i → Looking input from i → EndPost input from None
+  looking_past i l h = record { short = omega (arith, h.short); before = record { none = λ k a b e. h.seen.none k a (omega arith) e } }
 
 -- ---- where a line ends, taken apart
 

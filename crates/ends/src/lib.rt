@@ -4,18 +4,15 @@
 ghost use Rattle.std.specs.Prelude.{◌+◌, ◌≤◌, ◌≡◌, length};
 ghost use Rattle.ends.specs.Ends.{newline_in, passed_by, EndPost};
 
+// So many bytes without a newline are no line any more.
+const MOST: usize = 259;
+
 // Whether a newline stands in the 32 bytes from a place on. All of them are looked at, sixteen at once without a branch.
 fn has_newline(input: &[u8], from: usize) -> bool
     requires { from + 32 ≤ length input.now }
     ensures { result ≡ newline_in input.now from 32 }
 {
-    let mut seen = false;
-    let mut k: usize = 0;
-    while k < 32 {
-        seen = seen | (input[from + k] == 10);
-        k += 1;
-    }
-    seen
+    input[from..from + 32].contains(&10)
 }
 
 // Passes up to eight times 32 bytes that have no newline.
@@ -24,8 +21,7 @@ fn passed(input: &[u8], from: usize) -> usize
 {
     let n = input.len();
     let mut i = from;
-    let mut k: usize = 0;
-    while k < 8 {
+    for _ in 0..8u32 {
         if n < i {
             return i;
         }
@@ -36,7 +32,6 @@ fn passed(input: &[u8], from: usize) -> usize
             return i;
         }
         i += 32;
-        k += 1;
     }
     i
 }
@@ -46,18 +41,14 @@ fn passed(input: &[u8], from: usize) -> usize
 pub fn line_end(input: &[u8], from: usize) -> Option<usize>
     ensures { EndPost input.now from result }
 {
-    let n = input.len();
-    let mut i = passed(input, from);
-    let mut left: usize = 259 - (i - from);
-    while i < n {
+    for i in passed(input, from)..input.len() {
         let c = input[i];
-        i += 1;
-        left -= 1;
+        let end = i + 1;
         if c == 10 {
-            return Some(i);
+            return Some(end);
         }
-        if left == 0 {
-            return Some(i);
+        if end - from == MOST {
+            return Some(end);
         }
     }
     None

@@ -1,13 +1,22 @@
 -- The lines that are printed, one after the other.
-use Prim.Native.Nat.{ℕ, zero, suc, ◌+◌, ◌-◌, ◌*◌, ◌/◌, ◌%◌, ◌≤◌, ◌<◌, min}
+use Prim.Native.Nat.{ℕ, zero, suc, ◌+◌, ◌-◌, ◌*◌, ◌/◌, ◌≤◌, ◌<◌, min}
 use native.Mathlib.Omega.{arith}
 use mathlib.Core.Path.{◌≡◌, refl, sym, ap, ap₂, ◌∙◌}
 use mathlib.Core.Bool.{Bool, true, false}
 use mathlib.Core.List.{List, [], ◌∷◌, ◌++◌, append_assoc, append-nil}
 use lib.Dec.{leb}
-use lib.ListN.{length, take, drop, length-append, length-drop}
-use lib.Seq.{take-append_seam, drop-append_seam, drop-drop, length-take-le}
+use lib.ListN.{length, get_or, take, drop, length-append, length-drop}
+use lib.Seq.{get_or-take, take-suc, take-length, take-append_seam, drop-append_seam, drop-drop, length-take-le}
 use borrow.Author.Tests.{le-leb, lt-leb, leb-true, leb-false}
+use mir.Syntax.{w16}
+use borrow.Rule.Slice.PartMut.{put_mid}
+use Rattle.std.specs.Int.{to_be_bytes}
+use Rattle.std.specs.List.{flat_map}
+use Rattle.std.specs.Simd.{first_chunks}
+use Rattle.std.proofs.lemmas.Grind.{common_steps}
+use Rattle.std.proofs.lemmas.List.{flat_map_more}
+use Rattle.std.proofs.lemmas.Slice.{take-put_mid}
+use Rattle.frames.proofs.Chunks.{chunk-at}
 use Rattle.rules.specs.declared.Reply.{Reply}
 use Rattle.rules.specs.declared.Totals.{Totals}
 use Rattle.rules.specs.Buffers.{over, over-at}
@@ -41,16 +50,25 @@ module _ (l : List ℕ) (n : ℕ) (whole : record_size * n ≤ length l) where
   pub lines_start : (at : ℕ) (b : List ℕ) → Putting lines_to n at b b 0
   lines_start at b = putting_start lines_to n at b refl
 
-  pub lines_next : (at : ℕ) (b₀ b b' : List ℕ) (k from to : ℕ) → at + reply_line_size * n ≤ length b₀ → k < n → from ≡ record_size * k → to ≡ from + record_size
-      → b' ≡ over-at (written (17 ∷ take (to - from) (drop from l))) (at + reply_line_size * k) b → Putting lines_to n at b₀ b k → Putting lines_to n at b₀ b' (k + 1)
-  lines_next at b₀ b b' k from to room s e e' p h =
-      let part : take (to - from) (drop from l) ≡ take record_size (drop (record_size * k) l) = ap₂ (λ (i j : ℕ). take i (drop j l)) {x = to - from} {y = record_size} (omega (arith, e')) e in
+  pub lines_next : (at : ℕ) (b₀ b b' one : List ℕ) (k : ℕ) → at + reply_line_size * n ≤ length b₀ → k < n → one ≡ take record_size (drop (record_size * k) l)
+      → b' ≡ over-at (written (17 ∷ one)) (at + reply_line_size * k) b → Putting lines_to n at b₀ b k → Putting lines_to n at b₀ b' (k + 1)
+  lines_next at b₀ b b' one k room s part p h =
       let here : length (lines_to k) ≡ reply_line_size * k = lines-length k l (omega arith) in
-      putting_next lines_to n at b₀ b b' (written (17 ∷ take (to - from) (drop from l))) k (at + reply_line_size * k)
+      putting_next lines_to n at b₀ b b' (written (17 ∷ one)) k (at + reply_line_size * k)
       (ap lines_to {x = k + 1} {y = suc k} (omega arith) ∙ lines-add k l ∙ ap (λ (r : List ℕ). record_lines k l ++ written (17 ∷ r)) (sym part))
       (omega (arith, here))
-      (omega (arith, written-length (17 ∷ take (to - from) (drop from l)), ap length part, length-take-le record_size (drop (record_size * k) l) (omega (arith, length-drop (record_size * k) l))))
+      (omega (arith, written-length (17 ∷ one), ap length part, length-take-le record_size (drop (record_size * k) l) (omega (arith, length-drop (record_size * k) l))))
       s p h
+
+  -- of the records cut apart, the first n
+  module _ (all : List (List ℕ)) (f : all ≡ first_chunks record_size (length l / record_size) l) where
+    pub record_at : (k : ℕ) → k < n → get_or (take n all) k [] ≡ take record_size (drop (record_size * k) l)
+    record_at k s =
+        get_or-take n all k [] s ∙ ap (λ (x : List (List ℕ)). get_or x k []) f
+        ∙ chunk-at record_size (length l / record_size) k l (omega (arith, whole))
+
+    pub record_count : length all ≡ length l / record_size → length (take n all) ≡ n
+    record_count e = length-take-le n all (omega (arith, whole, e))
 
   pub lines_end : (at : ℕ) (b₀ b : List ℕ) (k : ℕ) → n ≤ k → Putting lines_to n at b₀ b k → b ≡ over-at (record_lines n l) at b₀
   lines_end at b₀ b k s h = h.is ∙ ap (λ (i : ℕ). over-at (record_lines i l) at b₀) {x = k} {y = n} (omega (arith, h.most))
@@ -80,16 +98,32 @@ first-lines F h h₀ n is count few =
 
 -- ---- totals
 
-pub totals_are : (t : Totals)
-    → t.found / 256 % 256 ∷ t.found % 256 ∷ t.replies / 256 % 256 ∷ t.replies % 256 ∷ t.sidelobe / 256 % 256 ∷ t.sidelobe % 256
-    ∷ t.garbled / 256 % 256 ∷ t.garbled % 256 ∷ t.lost / 256 % 256 ∷ t.lost % 256 ∷ t.phantoms / 256 % 256 ∷ t.phantoms % 256 ∷ []
-    ≡ totals_bytes_lem t
+-- the first k of some numbers are put, two bytes each
+pub record Totalled (l b : List ℕ) (k : ℕ) : Type 0 where
+  pub size : length b ≡ 12
+  pub so_far : take (2 * k) b ≡ flat_map (bytes 2) (take k l)
+
+pub totals_next : (l b two : List ℕ) (k : ℕ) → k < length l → length l ≡ 6 → two ≡ to_be_bytes w16 (get_or l k 0) → Totalled l b k
+    → Totalled l (put_mid (2 * k) (2 * k + 2 - 2 * k) b two) (k + 1)
+totals_next l b two k h n e t =
+    let x = get_or l k 0 in
+    let two-is : two ≡ bytes 2 x = e ∙ bytes-two x in
+    let two-size : length two ≡ 2 = ap length e in
+    record {
+      size = grind (arith, common_steps);
+      so_far =
+          take-put_mid (2 * k) (2 * k + 2 - 2 * k) b two (2 * (k + 1)) (omega (arith, two-size)) (omega (arith, t.size))
+          ∙ ap₂ (λ (y z : List ℕ). y ++ z) t.so_far two-is
+          ∙ flat_map_more (bytes 2) [] (take k l) x
+          ∙ ap (flat_map (bytes 2)) (sym (take-suc l k 0 h) ∙ ap (λ (i : ℕ). take i l) {x = suc k} {y = k + 1} (omega arith));
+    }
+
+pub totals_are : (t : Totals) (b : List ℕ) (k : ℕ) → 6 ≤ k → k ≤ 6 → Totalled (t.found ∷ t.replies ∷ t.sidelobe ∷ t.garbled ∷ t.lost ∷ t.phantoms ∷ []) b k → b ≡ totals_bytes_lem t
 unfolding totals_bytes_lem
-totals_are t =
-    with (with (with (with (with (bytes-two t.found) (bytes-two t.replies)) (bytes-two t.sidelobe)) (bytes-two t.garbled)) (bytes-two t.lost)) (bytes-two t.phantoms)
-  where
-    with : {k l m n : List ℕ} → k ≡ l → m ≡ n → k ++ m ≡ l ++ n
-    with p q = ap₂ (λ (x y : List ℕ). x ++ y) p q
+totals_are t b k h m p =
+    let e : k ≡ 6 = omega arith in
+    let z : 2 * k ≡ length b = omega (arith, p.size) in
+    sym (take-length b) ∙ ap (λ (i : ℕ). take i b) (sym z) ∙ p.so_far ∙ ap (λ (i : ℕ). flat_map (bytes 2) (take i (t.found ∷ t.replies ∷ t.sidelobe ∷ t.garbled ∷ t.lost ∷ t.phantoms ∷ []))) e
 
 pub totals-size : (t : Totals) → length (totals_bytes_lem t) ≡ 12
 unfolding totals_bytes_lem bytes

@@ -27,17 +27,9 @@ fn put_records(records: &[u8], n: usize, out: &mut [u8], at: usize)
     requires { (record_size * n ≤ length records.now) × (at + reply_line_size * n ≤ length out.old) }
     ensures { out.new ≡ over-at (record_lines n records.now) at out.old }
 {
-    let mut k: usize = 0;
-    while k < n {
-        let from = RECORD * k;
-        let to = from + RECORD;
-        put_line(
-            Kind::Reply as u8,
-            &records[from..to],
-            out,
-            at + REPLY_LINE * k,
-        );
-        k += 1;
+    let (all, _) = records.as_chunks::<RECORD>();
+    for (k, record) in all[..n].iter().enumerate() {
+        put_line(Kind::Reply as u8, record, out, at + REPLY_LINE * k);
     }
 }
 
@@ -72,20 +64,14 @@ pub fn reply_lines(records: &[u8], count: usize, out: &mut [u8], at: usize) -> u
 pub fn totals_bytes(t: Totals) -> [u8; TOTALS]
     ensures { result ≡ totals_bytes_lem t }
 {
-    [
-        (t.found / 256 % 256) as u8,
-        (t.found % 256) as u8,
-        (t.replies / 256 % 256) as u8,
-        (t.replies % 256) as u8,
-        (t.sidelobe / 256 % 256) as u8,
-        (t.sidelobe % 256) as u8,
-        (t.garbled / 256 % 256) as u8,
-        (t.garbled % 256) as u8,
-        (t.lost / 256 % 256) as u8,
-        (t.lost % 256) as u8,
-        (t.phantoms / 256 % 256) as u8,
-        (t.phantoms % 256) as u8,
-    ]
+    let totals = [
+        t.found, t.replies, t.sidelobe, t.garbled, t.lost, t.phantoms,
+    ];
+    let mut bytes = [0u8; TOTALS];
+    for (k, total) in totals.iter().enumerate() {
+        bytes[2 * k..2 * k + 2].copy_from_slice(&total.to_be_bytes());
+    }
+    bytes
 }
 
 // A line of a kind and at most the bytes of the totals. Answers the place behind it.

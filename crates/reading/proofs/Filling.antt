@@ -4,8 +4,9 @@ use native.Mathlib.Omega.{arith}
 use mathlib.Core.Path.{◌≡◌, refl, sym, ap, ap₂, ◌∙◌}
 use mathlib.Core.List.{List, [], ◌∷◌}
 use lib.ListN.{length, get_or, take, drop, set, length-drop, get_or-append}
-use lib.Seq.{length-take-le, get_or-take, get_or-drop, drop-drop}
+use lib.Seq.{length-take-le, get_or-take, get_or-drop}
 use Rattle.std.specs.Simd.{first_chunks}
+use Rattle.frames.proofs.Chunks.{chunk-at}
 use Rattle.frames.proofs.Filling.{Put, put-start, put_next, put-end}
 use Rattle.reading.specs.Frames.{flags_in, values_in}
 use Rattle.characters.specs.Characters.{digit}
@@ -69,13 +70,6 @@ valued_end line d₀ d n i room m e h =
 
 -- ---- the samples, from the values
 
-chunk-at : (k j : ℕ) (d : List ℕ) → j < k → get_or (first_chunks 4 k d) j [] ≡ take 4 (drop (4 * j) d)
-chunk-at zero j d h = absurd (omega arith)
-chunk-at (suc k) zero d h = refl
-chunk-at (suc k) (suc j) d h =
-    let e : 4 + 4 * j ≡ 4 * suc j = omega arith in
-    chunk-at k j (drop 4 d) (omega arith) ∙ ap (take 4) (drop-drop (4 * j) 4 d ∙ ap (λ (i : ℕ). drop i d) e)
-
 module _ (line d d₀ : List ℕ) (n : ℕ) (all : AllDigits line (4 * n + 2)) (e : d ≡ over (behind_values line (4 * n)) d₀) where
   value_held : (i : ℕ) → i < 4 * n → get_or d i 0 ≡ digit (get_or line (i + 2) 0)
   unfolding over
@@ -91,7 +85,7 @@ module _ (line d d₀ : List ℕ) (n : ℕ) (all : AllDigits line (4 * n + 2)) (
 
     held-at : (j r m : ℕ) → j < n → r < 4 → m ≡ 4 * j + (r + 2) → get_or (four j) r 0 ≡ digit (get_or line m 0)
     held-at j r m h l z =
-        ap (λ (x : List ℕ). get_or x r 0) (get_or-take n fours j [] h ∙ ap (λ (x : List (List ℕ)). get_or x j []) f ∙ chunk-at (length d / 4) j d (omega (arith, most)))
+        ap (λ (x : List ℕ). get_or x r 0) (get_or-take n fours j [] h ∙ ap (λ (x : List (List ℕ)). get_or x j []) f ∙ chunk-at 4 (length d / 4) j d (omega (arith, most)))
         ∙ get_or-take 4 (drop (4 * j) d) r 0 l ∙ get_or-drop (4 * j) d r 0 ∙ value_held (4 * j + r) (omega arith)
         ∙ ap (λ (i : ℕ). digit (get_or line i 0)) {x = 4 * j + r + 2} {y = m} (omega arith)
 

@@ -1,21 +1,14 @@
-use Rattle.ends.proofs.Newlines.{noticed_none, noticed_next, noticed_all}
+use Prim.Native.Nat.{◌+◌, ◌-◌}
 use native.Mathlib.Omega.{arith}
+use mathlib.Core.Path.{◌≡◌, ap, ◌∙◌}
+use lib.ListN.{take, drop}
+use lib.Dec.{eqb}
+use Rattle.rules.specs.Lists.{any}
+use Rattle.ends.proofs.Newlines.{any_newline}
 use Rattle.ends.proofs.has_newline.Goals as goal
-
-pub loop-k-init : goal.loop-k-init
-loop-k-init c = noticed_none c.args.input.now c.args.from
-
-pub bounds-input-from : goal.bounds-input-from
-bounds-input-from c = omega (arith, c.requires)
-
-pub loop-k-preserved : goal.loop-k-preserved
-loop-k-preserved c =
-    let l = c.loop-k in
-    let a = c.args in
-    noticed_next a.input.now a.from l.k l.seen (omega arith) c.requires l.invariant
 
 pub returns : goal.returns
 returns c =
-    let l = c.loop-k in
-    let a = c.args in
-    noticed_all a.input.now a.from l.k l.seen (omega arith) l.invariant
+    let rest = drop c.args.from c.args.input.now in
+    let e : c.args.from + 32 - c.args.from ≡ 32 = omega arith in
+    c.contains.ensures.value ∙ any_newline (take (c.args.from + 32 - c.args.from) rest) ∙ ap (λ n. any (λ c. eqb c 10) (take n rest)) e

@@ -1,10 +1,6 @@
 use Rattle.frames.specs.Writing.{record_lines}
-use Prim.Native.Nat.{◌-◌}
 use Rattle.hexadecimal.proofs.Parts.{Putting}
 use Rattle.frames.proofs.writing.put_records.Given as goal
 
 abbrev pub invariant-loop-k : goal.invariant-loop-k
 invariant-loop-k l = Putting (λ i. record_lines i l.records) l.n l.at l.initial.out l.out l.k
-
-abbrev pub decreases-loop-k : goal.decreases-loop-k
-decreases-loop-k l = l.n - l.k
