@@ -14,6 +14,7 @@ use std::io::{ErrorKind, Write};
 use std::{fmt, io};
 
 // A survey on its way: the processor, how many bytes at the start of the input buffer are not carried out yet, and how many bytes of input were.
+// Stays: a length beside a buffer, since `carried` promises its answer of whatever buffer it is lent.
 #[derive(Clone, Copy)]
 pub struct Survey {
     pub processor: Processor,
@@ -57,6 +58,7 @@ fn write_failed<W: fmt::Write>(
     what: &str,
     error: &io::Error,
 ) -> fmt::Result {
+    // Stays: a buffer with a length beside it, since memory is fixed and a String is on the heap.
     let mut bytes = [0u8; 256];
     let mut writer = io::Cursor::new(bytes.as_mut_slice());
     let _ = write!(writer, "{error}");

@@ -30,7 +30,7 @@ mod outcome_bytes;
 ghost use Rattle.std.specs.Prelude.{◌≤◌, length};
 
 use calls::Answer;
-use outcome_bytes::{put_answer, put_processor, put_totals};
+use outcome_bytes::put_outcome;
 use processor::Processor;
 use rules::{Opening, Totals};
 use std::error::Error;
@@ -177,22 +177,17 @@ impl TryFrom<[u8; 17]> for Call {
 
 // ---- calls
 
-// Writes the outcome of a call; the lent buffer stands behind the first 968 bytes. The processor goes into it if the call asks for that.
+// Writes the outcome of a call; the lent buffer stands behind the first 968 bytes.
 fn tell(
     rt: &impl Print,
-    shown: bool,
     answer: Answer,
     totals: Option<Totals>,
-    after: Processor,
+    shown: Option<Processor>,
     out: &mut [u8],
 ) -> Result<(), Fault>
     requires { 968 ≤ length out.old }
 {
-    put_answer(out, answer);
-    put_totals(out, totals);
-    if shown {
-        put_processor(out, after);
-    }
+    put_outcome(out, answer, totals, shown);
     rt.write_all(out).map_err(|error| match error.kind() {
         ErrorKind::BrokenPipe => Fault::Unread,
         _ => Fault::Unwritten,
@@ -206,7 +201,7 @@ fn make_open(rt: &impl Print, p: Processor, c: Call) -> Result<Processor, Fault>
     }
     let mut out = [c.fill; TOLD];
     let o = sweep::open(c.opening);
-    tell(rt, c.shown, o.answer, None, o.processor, &mut out)?;
+    tell(rt, o.answer, None, c.shown.then_some(o.processor), &mut out)?;
     match o.answer {
         Ok(_) => Ok(o.processor),
         Err(_) => Ok(p),
@@ -223,7 +218,7 @@ fn take_piece(
     let mut room = [c.fill; OUTCOME];
     let out = room.get_mut(..TOLD + c.lent as usize).ok_or(Fault::Lent)?;
     let t = sweep::take(p, flags, values, &mut out[TOLD..]);
-    tell(rt, c.shown, t.answer, None, t.processor, out)?;
+    tell(rt, t.answer, None, c.shown.then_some(t.processor), out)?;
     Ok(t.processor)
 }
 
@@ -251,7 +246,13 @@ fn make_close(rt: &impl Print, p: Processor, c: Call) -> Result<Processor, Fault
     let mut room = [c.fill; OUTCOME];
     let out = room.get_mut(..TOLD + c.lent as usize).ok_or(Fault::Lent)?;
     let t = sweep::close(p, &mut out[TOLD..]);
-    tell(rt, c.shown, t.answer, Some(t.totals), t.processor, out)?;
+    tell(
+        rt,
+        t.answer,
+        Some(t.totals),
+        c.shown.then_some(t.processor),
+        out,
+    )?;
     Ok(t.processor)
 }
 

@@ -1,4 +1,4 @@
-// The outcome of a call, as main.rt lays it down, at the start of a buffer of 968 bytes or more.
+// The outcome of a call, as main.rt lays it down.
 ghost use Rattle.std.specs.Prelude.{◌≤◌, length};
 
 use calls::Answer;
@@ -6,7 +6,7 @@ use fields::bits_of;
 use front::words::Front;
 use processor::Processor;
 use replies::level_of;
-use rules::{Counts, Estimate, Place, Reply, Slot, Totals};
+use rules::{Counts, Estimate, Opening, Place, Reply, Slot, Totals};
 
 // Numbers, one behind the other, 8 bytes each.
 fn put_all(out: &mut [u8], numbers: &[u64]) {
@@ -16,20 +16,16 @@ fn put_all(out: &mut [u8], numbers: &[u64]) {
     }
 }
 
-pub fn put_answer(out: &mut [u8], answer: Answer)
-    requires { 968 ≤ length out.old }
-{
+fn put_answer(out: &mut [u8], answer: Answer) {
     let numbers = match answer {
         Ok(count) => [1, count as u64],
         Err(refusal) => [2, u64::from(u8::from(refusal))],
     };
-    put_all(&mut out[0..16], &numbers);
+    put_all(out, &numbers);
 }
 
 // The six totals, or zeros.
-pub fn put_totals(out: &mut [u8], totals: Option<Totals>)
-    requires { 968 ≤ length out.old }
-{
+fn put_totals(out: &mut [u8], totals: Option<Totals>) {
     let numbers = match totals {
         None => [0; 6],
         Some(t) => [
@@ -41,7 +37,16 @@ pub fn put_totals(out: &mut [u8], totals: Option<Totals>)
             u64::from(t.phantoms),
         ],
     };
-    put_all(&mut out[16..64], &numbers);
+    put_all(out, &numbers);
+}
+
+fn put_settings(out: &mut [u8], opening: Opening, taken: u32) {
+    let numbers = [
+        u64::from(opening.mode),
+        u64::from(opening.azimuth),
+        u64::from(taken),
+    ];
+    put_all(out, &numbers);
 }
 
 fn put_front(out: &mut [u8], f: Front) {
@@ -100,15 +105,16 @@ fn put_counts(out: &mut [u8], c: Counts) {
     put_all(out, &numbers);
 }
 
-pub fn put_processor(out: &mut [u8], p: Processor)
+// Puts the outcome at the start of a buffer, with the processor if one is shown.
+pub fn put_outcome(out: &mut [u8], answer: Answer, totals: Option<Totals>, shown: Option<Processor>)
     requires { 968 ≤ length out.old }
 {
-    let settings = [
-        u64::from(p.opening.mode),
-        u64::from(p.opening.azimuth),
-        u64::from(p.taken),
-    ];
-    put_all(&mut out[64..88], &settings);
+    put_answer(&mut out[0..16], answer);
+    put_totals(&mut out[16..64], totals);
+    let Some(p) = shown else {
+        return;
+    };
+    put_settings(&mut out[64..88], p.opening, p.taken);
     put_front(&mut out[88..248], p.front);
     out[248..504].copy_from_slice(&p.recent);
     put_places(&mut out[504..920], p.places);
