@@ -1,11 +1,10 @@
 -- Words of ticks: what is read from them, and that they stay those of the places.
-use Prim.Native.Nat.{ℕ, zero, suc, ◌+◌, ◌*◌, ◌/◌, ◌%◌, ◌^◌, ◌≤◌, ◌<◌}
+use Prim.Native.Nat.{ℕ, zero, suc, ◌+◌, ◌*◌, ◌≤◌, ◌<◌}
 use native.Mathlib.Omega.{arith}
-use mathlib.Core.Path.{◌≡◌, refl, sym, ap, ap₂, ◌∙◌}
+use mathlib.Core.Path.{◌≡◌, sym, ap, ap₂, ◌∙◌}
 use mathlib.Core.Bool.{Bool, true, false, ◌&&◌, ◌||◌, cond}
 use mathlib.Core.List.{List, [], ◌∷◌}
 use lib.Bits.{bit_and, bit_or}
-use lib.Dec.{eqb}
 use lib.ListN.{length, set}
 use borrow.Author.Tests.{lt-ltb, le-ltb}
 use Rattle.rules.specs.declared.Reply.{Reply}
@@ -44,15 +43,6 @@ twice_law w =
           bit-or (bit_and w.a w.b) (bit_or (bit_and (bit_or w.a w.b) w.c) (bit_and (bit_or (bit_or w.a w.b) w.c) w.d)) i
           ∙ ap₂ ◌||◌ x (bit-or (bit_and (bit_or w.a w.b) w.c) (bit_and (bit_or (bit_or w.a w.b) w.c) w.d) i ∙ ap₂ ◌||◌ y z);
     }
-
-two_way : (n : ℕ) → n < 2 → n ≡ cond (eqb n 1) 1 0
-two_way zero h = refl
-two_way (suc zero) h = refl
-two_way (suc (suc n)) h = absurd (omega arith)
-
-pub digit_law : (x i : ℕ) → x / 2 ^ i % 2 ≡ cond (bit x i) 1 0
-unfolding bit
-digit_law x i = two_way (x / 2 ^ i % 2) (omega arith)
 
 pub which_law : (b c d i x y : ℕ) → x ≡ cond (bit (bit_or b d) i) 1 0 → y ≡ cond (bit (bit_or c d) i) 1 0 → x + 2 * y ≡ which_of (bit b i) (bit c i) (bit d i)
 which_law b c d i x y ex ey =

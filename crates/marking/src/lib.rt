@@ -2,10 +2,9 @@
 #![tactic(auto)]
 
 ghost use Rattle.std.specs.Prelude.{◌<◌, ◌≡◌, cond};
-ghost use Rattle.plane.specs.Words.{bit};
 ghost use Rattle.marking.specs.Marks.{with_word_lem, without_word_lem, AnyWord, TwiceWord, which_in, last_in, behind_of};
 
-use plane::marked;
+use plane::{digit, marked};
 
 // A word of ticks for each of the four places.
 #[derive(Clone, Copy)]
@@ -61,15 +60,6 @@ pub fn twice(w: Words) -> u64
     ensures { TwiceWord w result }
 {
     (w.a & w.b) | (((w.a | w.b) & w.c) | ((w.a | w.b | w.c) & w.d))
-}
-
-// Bit i of a word, as a number.
-fn digit(x: u64, i: u32) -> u64
-    requires { i < 64 }
-    ensures is { result ≡ cond (bit x i) 1 0 }
-    ensures below { result < 2 }
-{
-    (x >> i) % 2
 }
 
 // The one place whose word marks tick i. By arithmetic: a branch on it would not be foreseen.

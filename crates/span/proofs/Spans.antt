@@ -1,14 +1,11 @@
 -- The machine's view of 64 ticks: the words of a span give at each tick the edge and the bracket of the rules.
-use Prim.Native.Nat.{ℕ, ◌+◌, ◌-◌, ◌/◌, ◌%◌, ◌^◌, ◌≤◌, ◌<◌}
-use native.Mathlib.Nat.{mod-lt}
+use Prim.Native.Nat.{ℕ, ◌+◌, ◌-◌, ◌^◌, ◌≤◌, ◌<◌}
 use native.Mathlib.Omega.{arith}
 use mathlib.Core.Path.{◌≡◌, refl, sym, ap, ◌∙◌, subst}
 use mathlib.Core.Bool.{Bool, true, false, not, ◌&&◌, ◌||◌, cond}
 use mathlib.Core.List.{List}
 use lib.Bits.{bit_and, bit_or, or_lt}
-use lib.Dec.{eqb}
 use lib.ListN.{length}
-use borrow.Author.Tests.{eqb-true, eqb-false}
 use Rattle.rules.specs.declared.Bracket.TheVariants.{Without, With}
 use Rattle.rules.specs.Settings.{standard}
 use Rattle.rules.specs.Samples.{Trace, M}
@@ -78,14 +75,6 @@ pub span_law : (f : Front) (s : Span) → SpanMade f s → SpanPost f s
 span_law f s h = record { result = λ F e. spanned (padded F) (length F) f s h (fronted F f e) }
 
 -- ---- where an F2 stands, by bits of words
-
-pub digit-is : (x i : ℕ) → x / 2 ^ i % 2 ≡ cond (bit x i) 1 0
-unfolding bit
-digit-is x i = go (eqb (x / 2 ^ i % 2) 1) refl
-  where
-    go : (c : Bool) → eqb (x / 2 ^ i % 2) 1 ≡ c → x / 2 ^ i % 2 ≡ cond c 1 0
-    go true e = eqb-true (x / 2 ^ i % 2) 1 e
-    go false e = let b : x / 2 ^ i % 2 < 2 = mod-lt (x / 2 ^ i) (omega arith) in omega (arith, eqb-false (x / 2 ^ i % 2) 1 e, b)
 
 or-three : (a b c i : ℕ) → bit (bit_or (bit_or a b) c) i ≡ (bit a i || (bit b i || bit c i))
 or-three a b c i = bit-or (bit_or a b) c i ∙ ap (λ (y : Bool). y || bit c i) (bit-or a b i) ∙ in_turn (bit a i) (bit b i) (bit c i)

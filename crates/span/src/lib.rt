@@ -7,7 +7,7 @@ ghost use Rattle.span.specs.Spans.{SpanPost, TopPost, AbovePost, has_bracket_lem
 
 use brackets::{at167, at168, due};
 use front::words::Front;
-use plane::{marked, slide};
+use plane::{digit, marked, slide};
 use rules::Tick;
 
 // The 64 ticks u that the machine can work, as words: edges at u, at u+168, at u+167 and at u+169, and the M of each.
@@ -26,22 +26,15 @@ pub struct Span {
 pub fn span_of(f: Front) -> Span
     ensures { SpanPost f result }
 {
-    let u = due(f.e2, f.e3);
-    let u168 = at168(f.e, f.e1);
-    let u167 = at167(f.e, f.e1);
-    let main = slide(f.m3, f.m2, 15);
-    let main168 = slide(f.m1, f.m, 55);
-    let main167 = slide(f.m1, f.m, 54);
-    let main169 = slide(f.m1, f.m, 56);
     Span {
-        due: u,
-        at168: u168,
-        at167: u167,
+        due: due(f.e2, f.e3),
+        at168: at168(f.e, f.e1),
+        at167: at167(f.e, f.e1),
         at169: f.e,
-        main,
-        main168,
-        main167,
-        main169,
+        main: slide(f.m3, f.m2, 15),
+        main168: slide(f.m1, f.m, 55),
+        main167: slide(f.m1, f.m, 54),
+        main169: slide(f.m1, f.m, 56),
     }
 }
 
@@ -83,21 +76,13 @@ fn later(s: Span) -> u64
     !(s.at168 | s.at167)
 }
 
-// Bit i of a word, as a number.
-fn digit(x: u64, i: u32) -> u32
-    requires { i < 64 }
-    ensures { result ≡ cond (bit x i) 1 0 }
-{
-    ((x >> i) % 2) as u32
-}
-
 // How far behind an edge its F2 stands: 168 ticks, else 167, else 169.
 pub fn apart(s: Span, i: u32) -> u32
     requires { i < 64 }
     ensures is { result ≡ cond (bit s.at168 i) 168 (cond (bit s.at167 i) 167 169) }
     ensures most { result ≤ 169 }
 {
-    168 + digit(later(s), i) - digit(sooner(s), i)
+    (168 + digit(later(s), i) - digit(sooner(s), i)) as u32
 }
 
 // M of the F2 there.

@@ -1,16 +1,17 @@
 -- `bad_block` tells whether a byte of 64 is bad: of the or of their words the high bits, of the or of their pairs P with N.
 use native.Mathlib.Omega.{arith}
-use Rattle.flags.proofs.Flagless.{eight-words}
-use Rattle.flags.proofs.BadBlocks.{none-bad, block_bad, eight-pairs}
+use Rattle.std.proofs.Common.{rules}
+use Rattle.flags.proofs.Flagless.{words_by}
+use Rattle.flags.proofs.BadBlocks.{none-bad, block_bad, pairs_by}
 use Rattle.flags.proofs.bad_block.Goals as goal
 
 pub returns-then-bits-eq0 : goal.returns-then-bits-eq0
 returns-then-bits-eq0 c =
     none-bad c.args.flags.now c.args.o _ 0 (omega (arith, c.requires)) (λ i. omega (arith, c.type_inv.flags i))
-    (eight-words c.args.flags.now c.args.o c.or_bits.ensures c.or_bits-2.ensures) c.if-bits-eq0.true
+    (words_by c.args.flags.now c.args.o _ (λ x y e. search rules) 7 _ c.gather-bits.ensures) c.if-bits-eq0.true
 
 pub returns : goal.returns
 returns c =
     block_bad c.args.flags.now c.args.o _ _ (omega (arith, c.requires)) (λ i. omega (arith, c.type_inv.flags i))
-    (eight-words c.args.flags.now c.args.o c.or_bits.ensures c.or_bits-2.ensures)
-    (eight-pairs c.args.flags.now c.args.o c.or_pairs.ensures c.or_pairs-2.ensures)
+    (words_by c.args.flags.now c.args.o _ (λ x y e. search rules) 7 _ c.gather-bits.ensures)
+    (pairs_by c.args.flags.now c.args.o _ (λ x y e. search rules) 7 _ c.gather-pairs.ensures)
