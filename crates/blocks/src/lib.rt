@@ -19,12 +19,7 @@ pub fn packed(flags: &[u8], o: usize, r: usize) -> Planes
 {
     if r == 64 {
         if flagless_block(flags, o) {
-            return Planes {
-                a: 0,
-                p: 0,
-                n: 0,
-                m: 0,
-            };
+            return Planes::default();
         }
         return pack(flags, o);
     }
@@ -48,7 +43,7 @@ pub fn block_length(n: usize) -> usize
 fn is_flagless(x: Planes) -> bool
     ensures { result ≡ flagless x }
 {
-    (x.a == 0) & ((x.p == 0) & ((x.n == 0) & (x.m == 0)))
+    x == Planes::default()
 }
 
 // Whether the reply of the first place, if there is one, is not due once t ticks are taken.

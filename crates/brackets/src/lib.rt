@@ -4,23 +4,26 @@
 
 ghost use Rattle.brackets.specs.Brackets.{Due, At168, At167};
 
+use plane::slide;
+
 // The edges at the ticks u.
 pub fn due(e2: u64, e3: u64) -> u64
     ensures { Due e2 e3 result }
 {
-    (e2 << 41) | (e3 >> 23)
+    slide(e3, e2, 23)
 }
 
 // The edges at u+168. Those at u+169 are e itself.
 pub fn at168(e: u64, e1: u64) -> u64
     ensures { At168 e e1 result }
 {
-    (e << 1) | (e1 >> 63)
+    slide(e1, e, 63)
 }
 
 // The edges at u+167.
+// Stays: one function for both places would be `slide` itself, and the places numbers where it is called.
 pub fn at167(e: u64, e1: u64) -> u64
     ensures { At167 e e1 result }
 {
-    (e << 2) | (e1 >> 62)
+    slide(e1, e, 62)
 }

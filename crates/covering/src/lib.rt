@@ -3,63 +3,48 @@
 
 ghost use Rattle.std.specs.Prelude.{◌<◌};
 ghost use Rattle.rules.specs.Replies.{covers, is_phantom};
-ghost use Rattle.covering.specs.Starts.{Tells, AllTell};
+ghost use Rattle.covering.specs.Starts.{OfSlot, OfSlots, AllTell};
 
 use marking::Words;
 use masks::{cover_mask, phantom_mask};
-use rules::{Place, Slot, Tick};
+use rules::{Place, Reply, Slot, Tick};
 
-// The ticks of the block that the place covers.
-fn cover_of(p: Place, t: Tick) -> u64
-    requires { t.0 < 65000 }
-    ensures { Tells covers t.0 result p }
-{
-    let s = p.slot;
-    match s {
-        Slot::Idle => 0,
-        Slot::Open(r) => {
-            let q = r.f1;
-            cover_mask(q, t)
-        }
-    }
-}
-
-// Those at which a bracket removes it.
-fn risk_of(p: Place, t: Tick) -> u64
-    requires { t.0 < 65000 }
-    ensures { Tells is_phantom t.0 result p }
-{
-    let s = p.slot;
-    match s {
-        Slot::Idle => 0,
-        Slot::Open(r) => {
-            let q = r.f1;
-            let m = r.marks;
-            phantom_mask(q, m.suspect, t)
-        }
-    }
-}
-
+// The ticks of the block that each place covers.
 pub fn covers_of(p: [Place; 4], t: Tick) -> Words
     requires { t.0 < 65000 }
     ensures { AllTell covers t.0 result p }
 {
-    Words {
-        a: cover_of(p[0], t),
-        b: cover_of(p[1], t),
-        c: cover_of(p[2], t),
-        d: cover_of(p[3], t),
-    }
+    words_of(p, |r| cover_mask(r.f1, t))
 }
 
+// Those at which a bracket removes its reply.
 pub fn risks_of(p: [Place; 4], t: Tick) -> Words
     requires { t.0 < 65000 }
     ensures { AllTell is_phantom t.0 result p }
 {
+    words_of(p, |r| phantom_mask(r.f1, r.marks.suspect, t))
+}
+
+// What `word` makes of the reply of each place.
+fn words_of<F: Fn(Reply) -> u64>(p: [Place; 4], word: F) -> Words
+    requires { F.IsAlwaysCallable word }
+    ensures { OfSlots (F.post word) result p }
+{
     Words {
-        a: risk_of(p[0], t),
-        b: risk_of(p[1], t),
-        c: risk_of(p[2], t),
-        d: risk_of(p[3], t),
+        a: word_of(p[0], &word),
+        b: word_of(p[1], &word),
+        c: word_of(p[2], &word),
+        d: word_of(p[3], &word),
+    }
+}
+
+// What `word` makes of the place's reply; no tick where it is idle.
+fn word_of<F: Fn(Reply) -> u64>(p: Place, word: &F) -> u64
+    requires { F.IsAlwaysCallable word.now }
+    ensures { OfSlot (F.post word.now) p.slot result }
+{
+    match p.slot {
+        Slot::Idle => 0,
+        Slot::Open(r) => word(r),
     }
 }

@@ -10,9 +10,10 @@ use lib.Bits.{bit_and}
 use lib.Dec.{eqb}
 use Rattle.rules.specs.Edges.{lead, falls, age, since, age_at}
 use Rattle.rules.specs.Sentences.{lead_at}
-use Rattle.plane.specs.Words.{Holds}
+use Rattle.plane.specs.Words.{Slid}
 use Rattle.edges.specs.Planes.{falls_at, calm_at, chain_at}
-use Rattle.plane.proofs.PlaneLaws.{back, holds-and, holds_eq, holds-behind, holds-back, place, newest}
+use Rattle.edges.specs.Detection.{Chain}
+use Rattle.plane.proofs.PlaneLaws.{holds-and, holds_eq, holds-behind, holds-back, place, newest}
 use Rattle.edges.proofs.RunLaws as run
 use Rattle.edges.proofs.Fill.{seed, fill, thin, filled}
 
@@ -46,15 +47,13 @@ module _ (F : List ℕ) where
   unfolding chain_at calm_at calm4
   chain_law t = run.chain_law (lead_at F) (falls_at F) (age_at F) age-first age-step t
 
-  -- leads and calm ticks of b to b+127 and the chain of b to b+63 give the chain of b+64 to b+127
-  pub chain-is : (b l l₀ k k₀ h₀ : ℕ) → Holds (lead_at F) b l₀ → Holds (lead_at F) (b + 64) l → Holds (calm_at F) b k₀ → Holds (calm_at F) (b + 64) k → Holds (chain_at F) b h₀
-      → Holds (chain_at F) (b + 64)
-      (let z = bit_and (bit_and (bit_and k (back 1 k k₀)) (back 2 k k₀)) (back 3 k k₀) in
-      fill 32 (fill 16 (fill 8 (fill 4 (seed h₀ (back 4 l l₀) z) z) (thin 4 z)) (thin 8 (thin 4 z))) (thin 16 (thin 8 (thin 4 z))))
-  chain-is b l l₀ k k₀ h₀ hl₀ hl hk₀ hk hh = filled chain_law hh (holds-back 4 (omega arith) hl hl₀) four
-    where
-      four : Holds calm4 (b + 64) (bit_and (bit_and (bit_and k (back 1 k k₀)) (back 2 k k₀)) (back 3 k k₀))
-      four =
-          holds-behind 3 (b + 61) (b + 64) (omega arith)
-          (holds_eq calm4_at
-          (holds-and (holds-and (holds-and (newest hk hk₀ 3 (omega arith)) (place hk hk₀ 2 1 (omega arith))) (place hk hk₀ 1 2 (omega arith))) (place hk hk₀ 0 3 (omega arith))))
+-- leads and calm ticks of b to b+127 and the chain of b to b+63 give the chain of b+64 to b+127
+module _ {l l₀ k k₀ h₀ k₁ k₂ k₃ l₄ : ℕ} (s₁ : Slid k₀ k 63 k₁) (s₂ : Slid k₀ k 62 k₂) (s₃ : Slid k₀ k 61 k₃) (s₄ : Slid l₀ l 60 l₄) where
+  pub chain-is : let z = bit_and (bit_and (bit_and k k₁) k₂) k₃ in
+      Chain l l₀ k k₀ h₀ (fill 32 (fill 16 (fill 8 (fill 4 (seed h₀ l₄ z) z) (thin 4 z)) (thin 8 (thin 4 z))) (thin 16 (thin 8 (thin 4 z))))
+  chain-is = record {
+    holds = λ F b hl₀ hl hk₀ hk hh. filled {Z = calm4 F} (chain_law F) hh (holds-back 4 (omega arith) s₄ hl hl₀)
+        (holds-behind 3 (b + 61) (b + 64) (omega arith)
+        (holds_eq (calm4_at F)
+        (holds-and (holds-and (holds-and (newest hk hk₀ 3 (omega arith)) (place hk hk₀ 2 1 (omega arith) s₁)) (place hk hk₀ 1 2 (omega arith) s₂)) (place hk hk₀ 0 3 (omega arith) s₃))));
+  }

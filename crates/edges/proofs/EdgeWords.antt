@@ -17,9 +17,10 @@ use Rattle.rules.specs.Settings.{standard}
 use Rattle.rules.specs.Edges.{no_edge, actual, pseudo, extra, is_edge, lead, falls, trail_within, goes_on, no_trail_lem, in_run, kind, since, age_at, kind_at}
 use Rattle.rules.specs.Sentences.{lead_at}
 use Rattle.rules.proofs.Truth.{impossible}
-use Rattle.plane.specs.Words.{Holds}
-use Rattle.edges.specs.Planes.{falls_at, calm_at, chain_of, chain_at, untrailed, drawn_out, has_edge}
-use Rattle.plane.proofs.PlaneLaws.{inv, back, holds-and, holds-or, holds_not, holds_eq, holds-behind, place, newest}
+use Rattle.plane.specs.Words.{Holds, Slid}
+use Rattle.edges.specs.Planes.{falls_at, calm_at, chain_of, chain_at, has_edge}
+use Rattle.edges.specs.Detection.{NoTrail, Long, Edges}
+use Rattle.plane.proofs.PlaneLaws.{inv, holds-and, holds-or, holds_not, holds_eq, holds-behind, place, newest}
 use Rattle.edges.proofs.RunLaws as run
 use Rattle.edges.proofs.RunLaws.{ends, ends_are, edge_bools, chain_small}
 use Rattle.edges.proofs.ChainWords.{age-first, age-step}
@@ -72,11 +73,11 @@ two-leads (x ∷ v) e = lead-apart (A (x ∷ v) 0) (A v 0) (A v 1) (A v 2) (P v 
 -- ---- the edge at y+1, by planes
 
 -- a plane d ticks after the tick before the edge's
-ahead : {G : ℕ → Bool} {b now before : ℕ} → Holds G (b + 64) now → Holds G b before → (d : ℕ) → d ≤ 8
-    → Holds (λ t. G (t + d)) (b + 56) (back (8 - d) now before)
-ahead {G} {b} {now} {before} p q d g =
+ahead : {G : ℕ → Bool} {b now before x : ℕ} → Holds G (b + 64) now → Holds G b before → (d : ℕ) → d ≤ 8 → Slid before now (64 - (8 - d)) x
+    → Holds (λ t. G (t + d)) (b + 56) x
+ahead {G} {b} {now} {before} {x} p q d g s =
     let e : b + (64 - (8 - d) - d) ≡ b + 56 = omega arith in
-    subst (λ (n : ℕ). Holds (λ t. G (t + d)) n (back (8 - d) now before)) e (place p q d (8 - d) (omega arith))
+    subst (λ (n : ℕ). Holds (λ t. G (t + d)) n x) e (place p q d (8 - d) (omega arith) s)
 
 module _ (F : List ℕ) where
   one-drop : (t : ℕ) → drop 1 (since F t) ≡ since F (suc t)
@@ -162,40 +163,36 @@ module _ (F : List ℕ) where
       ≡ has_edge F (y + 1)
   edge_at y = rw (add-zero, add-one, add-two, add-three, add-four, add_five, add_six, add_seven, add_eight) (edge_planes y)
 
-  module _ (b l l₀ k k₀ : ℕ) (hl₀ : Holds (lead_at F) b l₀) (hl : Holds (lead_at F) (b + 64) l) (hk₀ : Holds (calm_at F) b k₀) (hk : Holds (calm_at F) (b + 64) k) where
-    pub untrailed_hold : Holds (untrailed F) (b + 56)
-        (bit_or (back 3 l l₀) (bit_and (back 3 k k₀) (bit_or (back 2 l l₀) (bit_and (back 2 k k₀) (bit_or (back 1 l l₀) (bit_and (back 1 k k₀) (bit_or l k)))))))
-    untrailed_hold =
-        holds-or (ahead hl hl₀ 5 (omega arith)) (holds-and (ahead hk hk₀ 5 (omega arith)) (holds-or (ahead hl hl₀ 6 (omega arith)) (holds-and (ahead hk hk₀ 6 (omega arith))
-        (holds-or (ahead hl hl₀ 7 (omega arith)) (holds-and (ahead hk hk₀ 7 (omega arith)) (holds-or (newest hl hl₀ 8 (omega arith)) (newest hk hk₀ 8 (omega arith))))))))
+-- ---- the words, from those that start so many ticks before
 
-  module _ (b k k₀ h h₀ : ℕ) (hk₀ : Holds (calm_at F) b k₀) (hk : Holds (calm_at F) (b + 64) k) (hh₀ : Holds (chain_at F) b h₀) (hh : Holds (chain_at F) (b + 64) h) where
-    pub drawn_out_hold : Holds (drawn_out F) (b + 56)
-        (bit_and (bit_and (back 7 k k₀) (back 8 k k₀)) (bit_or (bit_or (bit_or (back 7 h h₀) (back 6 h h₀)) (back 5 h h₀)) (back 4 h h₀)))
-    drawn_out_hold =
-        holds-and (holds-and (ahead hk hk₀ 1 (omega arith)) (ahead hk hk₀ 0 (omega arith)))
-        (holds-or (holds-or (holds-or (ahead hh hh₀ 1 (omega arith)) (ahead hh hh₀ 2 (omega arith))) (ahead hh hh₀ 3 (omega arith))) (ahead hh hh₀ 4 (omega arith)))
+module _ {l l₀ k k₀ l₁ l₂ l₃ k₁ k₂ k₃ : ℕ} (sl₁ : Slid l₀ l 63 l₁) (sk₁ : Slid k₀ k 63 k₁) (sl₂ : Slid l₀ l 62 l₂) (sk₂ : Slid k₀ k 62 k₂) (sl₃ : Slid l₀ l 61 l₃) (sk₃ : Slid k₀ k 61 k₃) where
+  pub untrailed_are : NoTrail l l₀ k k₀ (bit_or l₃ (bit_and k₃ (bit_or l₂ (bit_and k₂ (bit_or l₁ (bit_and k₁ (bit_or l k)))))))
+  untrailed_are = record {
+    holds = λ F b hl₀ hl hk₀ hk.
+        holds-or (ahead hl hl₀ 5 (omega arith) sl₃) (holds-and (ahead hk hk₀ 5 (omega arith) sk₃)
+        (holds-or (ahead hl hl₀ 6 (omega arith) sl₂) (holds-and (ahead hk hk₀ 6 (omega arith) sk₂)
+        (holds-or (ahead hl hl₀ 7 (omega arith) sl₁) (holds-and (ahead hk hk₀ 7 (omega arith) sk₁)
+        (holds-or (newest hl hl₀ 8 (omega arith)) (newest hk hk₀ 8 (omega arith))))))));
+  }
 
-  module _ (b l l₀ k k₀ h h₀ : ℕ) (hl₀ : Holds (lead_at F) b l₀) (hl : Holds (lead_at F) (b + 64) l) (hk₀ : Holds (calm_at F) b k₀) (hk : Holds (calm_at F) (b + 64) k)
-      (hh₀ : Holds (chain_at F) b h₀) (hh : Holds (chain_at F) (b + 64) h) where
-    L : (d : ℕ) → d ≤ 8 → Holds (λ t. lead_at F (t + d)) (b + 56) (back (8 - d) l l₀)
-    L = ahead hl hl₀
+module _ {k k₀ h h₀ k₇ k₈ h₇ h₆ h₅ h₄ : ℕ} (sk₇ : Slid k₀ k 57 k₇) (sk₈ : Slid k₀ k 56 k₈) (sh₇ : Slid h₀ h 57 h₇) (sh₆ : Slid h₀ h 58 h₆) (sh₅ : Slid h₀ h 59 h₅) (sh₄ : Slid h₀ h 60 h₄) where
+  pub drawn_out_are : Long k k₀ h h₀ (bit_and (bit_and k₇ k₈) (bit_or (bit_or (bit_or h₇ h₆) h₅) h₄))
+  drawn_out_are = record {
+    holds = λ F b hk₀ hk hh₀ hh.
+        holds-and (holds-and (ahead hk hk₀ 1 (omega arith) sk₇) (ahead hk hk₀ 0 (omega arith) sk₈))
+        (holds-or (holds-or (holds-or (ahead hh hh₀ 1 (omega arith) sh₇) (ahead hh hh₀ 2 (omega arith) sh₆)) (ahead hh hh₀ 3 (omega arith) sh₅)) (ahead hh hh₀ 4 (omega arith) sh₄));
+  }
 
-    K : (d : ℕ) → d ≤ 8 → Holds (λ t. calm_at F (t + d)) (b + 56) (back (8 - d) k k₀)
-    K = ahead hk hk₀
-
-    H : (d : ℕ) → d ≤ 8 → Holds (λ t. chain_at F (t + d)) (b + 56) (back (8 - d) h h₀)
-    H = ahead hh hh₀
-
-    -- leads, calm ticks and the chain of b to b+127 give the edges of b+57 to b+120
-    pub edges_hold : (u d : ℕ) → Holds (untrailed F) (b + 56) u → Holds (drawn_out F) (b + 56) d
-        → Holds (has_edge F) (b + 57)
-        (bit_or (bit_and (back 7 l l₀) (back 6 k k₀))
-        (bit_and (bit_and (bit_and (back 6 k k₀) (back 5 k k₀)) (back 4 k k₀))
-        (bit_or (bit_and (back 7 h h₀) u) (bit_and (bit_and (inv (back 3 k k₀)) (inv (back 3 l l₀))) d))))
-    edges_hold u d hu hd =
+-- leads, calm ticks and the chain of b to b+127 give the edges of b+57 to b+120
+module _ {l l₀ k k₀ h h₀ u d k₆ k₃ l₃ k₅ k₄ l₇ h₇ : ℕ} (su : NoTrail l l₀ k k₀ u) (sd : Long k k₀ h h₀ d)
+    (sk₆ : Slid k₀ k 58 k₆) (sk₃ : Slid k₀ k 61 k₃) (sl₃ : Slid l₀ l 61 l₃) (sk₅ : Slid k₀ k 59 k₅) (sk₄ : Slid k₀ k 60 k₄) (sl₇ : Slid l₀ l 57 l₇) (sh₇ : Slid h₀ h 57 h₇) where
+  pub edges_are : Edges l l₀ k k₀ h h₀ (bit_or (bit_and l₇ k₆) (bit_and (bit_and (bit_and k₆ k₅) k₄) (bit_or (bit_and h₇ u) (bit_and (bit_and (inv k₃) (inv l₃)) d))))
+  edges_are = record {
+    holds = λ F b hl₀ hl hk₀ hk hh₀ hh.
         holds-behind 1 (b + 56) (b + 57) (omega arith)
-        (holds_eq edge_at
-        (holds-or (holds-and (L 1 (omega arith)) (K 2 (omega arith)))
-        (holds-and (holds-and (holds-and (K 2 (omega arith)) (K 3 (omega arith))) (K 4 (omega arith)))
-        (holds-or (holds-and (H 1 (omega arith)) hu) (holds-and (holds-and (holds_not (K 5 (omega arith))) (holds_not (L 5 (omega arith)))) hd)))))
+        (holds_eq (edge_at F)
+        (holds-or (holds-and (ahead hl hl₀ 1 (omega arith) sl₇) (ahead hk hk₀ 2 (omega arith) sk₆))
+        (holds-and (holds-and (holds-and (ahead hk hk₀ 2 (omega arith) sk₆) (ahead hk hk₀ 3 (omega arith) sk₅)) (ahead hk hk₀ 4 (omega arith) sk₄))
+        (holds-or (holds-and (ahead hh hh₀ 1 (omega arith) sh₇) (su.holds F b hl₀ hl hk₀ hk))
+        (holds-and (holds-and (holds_not (ahead hk hk₀ 5 (omega arith) sk₃)) (holds_not (ahead hl hl₀ 5 (omega arith) sl₃))) (sd.holds F b hk₀ hk hh₀ hh))))));
+  }

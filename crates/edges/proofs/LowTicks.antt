@@ -12,6 +12,7 @@ use Rattle.rules.specs.Edges.{lead, falls, age, since, age_at}
 use Rattle.rules.specs.Sentences.{lead_at}
 use Rattle.rules.proofs.Truth.{or_left, or_right}
 use Rattle.edges.specs.declared.Past.{Past}
+use Rattle.edges.specs.declared.Found.{Found}
 use Rattle.plane.specs.Words.{bit, Holds}
 use Rattle.edges.specs.Planes.{falls_at, calm_at, chain_of, chain_at, has_edge}
 use Rattle.edges.specs.Detection.{Behind, Ahead}
@@ -86,3 +87,7 @@ module _ (past : Past) (a : ℕ) (e : bit_or a past.a ≡ 0) (F : List ℕ) (g :
     chain = holds-none (λ i h. chain-low F (g + 64 + i) (at 64 i (omega arith) (omega arith) h));
     edge = holds-none (λ i h. edge-low F (g + 57 + i) (at 57 i (omega arith) (omega arith) h));
   }
+
+  pub skipped_as : (r : Found) → (r.lead ≡ 0) × ((r.calm ≡ 0) × ((r.chain ≡ 0) × (r.edge ≡ 0))) → Ahead F g r
+  skipped_as r d =
+      subst (Ahead F g) (λ j. record { lead = sym d.0 j; calm = sym d.1.0 j; chain = sym d.1.1.0 j; edge = sym d.1.1.1 j }) skipped

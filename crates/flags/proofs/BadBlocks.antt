@@ -3,7 +3,7 @@
 use Prim.Native.Nat.{ℕ, zero, suc, ◌+◌, ◌*◌, ◌/◌, ◌%◌, ◌^◌, ◌≤◌, ◌<◌}
 use native.Mathlib.Omega.{arith}
 use native.Mathlib.Nat.{add-zero}
-use mathlib.Core.Path.{◌≡◌, refl, sym, ap, ap₂, ◌∙◌}
+use mathlib.Core.Path.{◌≡◌, refl, sym, ap, ap₂, ◌∙◌, subst}
 use mathlib.Core.Bool.{Bool, true, false, not, ◌&&◌, ◌||◌}
 use mathlib.Core.List.{List}
 use lib.Dec.{ltb, leb, eqb}
@@ -15,12 +15,12 @@ use Rattle.rules.specs.Samples.{bad, odd}
 use Rattle.rules.proofs.Truth.{or_left, or_right, impossible}
 use Rattle.plane.specs.Words.{bit}
 use Rattle.packing.specs.Packing.{bytes, Eight}
-use Rattle.flags.specs.Flags.{some, Gathered, Paired}
-use Rattle.plane.proofs.Cases.{and_false, or_false, up_to, below, is_true, never}
+use Rattle.flags.specs.Flags.{some, Gathered, GatheredBy, Paired}
+use Rattle.plane.proofs.Cases.{and_false, up_to, below, is_true, never}
 use Rattle.plane.proofs.BitLaws.{bit-and, bit-or, bit-shr, bit-above, zero_bit}
 use Rattle.plane.proofs.LowestBit.{no_bits}
 use Rattle.flags.proofs.BadBytes.{rest}
-use Rattle.flags.proofs.Flagless.{some-none, none-some, or_assoc, some_more, byte_bit, all_bits}
+use Rattle.flags.proofs.Flagless.{some-none, none-some, or_assoc, byte_bit, all_bits}
 
 -- ---- one byte
 
@@ -57,19 +57,11 @@ one-more-pair f o n {x} {y} {z} g e q = record {
   at = λ i h. bit-or y z i ∙ ap₂ ◌||◌ (g.at i h) (ap (λ (z : ℕ). bit z i) q ∙ pair-bit f (o + 8 * n) x i e h);
 }
 
--- four words in a row, and eight
-pub four-pairs : (f : List ℕ) (o : ℕ) {x₀ x₁ x₂ x₃ y₀ y₁ y₂ y₃ : ℕ} → Eight f o x₀ → Eight f (o + 8) x₁ → Eight f (o + 16) x₂ → Eight f (o + 24) x₃
-    → y₀ ≡ bit_and x₀ (x₀ / 2) → y₁ ≡ bit_and x₁ (x₁ / 2) → y₂ ≡ bit_and x₂ (x₂ / 2) → y₃ ≡ bit_and x₃ (x₃ / 2)
-    → Paired f o 4 (bit_or (bit_or (bit_or y₀ y₁) y₂) y₃)
-four-pairs f o e₀ e₁ e₂ e₃ q₀ q₁ q₂ q₃ =
-    one-more-pair f o 3 (one-more-pair f o 2 (one-more-pair f o 1 (first-pair f o e₀ q₀) e₁ q₁) e₂ q₂) e₃ q₃
-
-pub eight-pairs : (f : List ℕ) (o : ℕ) {x y : ℕ} → Paired f o 4 x → Paired f (o + 32) 4 y → Paired f o 8 (bit_or x y)
-eight-pairs f o {x} {y} p q = record {
-  at = λ i h. bit-or x y i ∙ ap₂ ◌||◌ (p.at i h) (q.at i h)
-      ∙ some_more (λ j. bytes f (o + 8 * j) i && bytes f (o + 8 * j) (1 + i)) (λ j. bytes f (o + 32 + 8 * j) i && bytes f (o + 32 + 8 * j) (1 + i)) 4 4
-      (λ j. let e : o + 32 + 8 * j ≡ o + 8 * (4 + j) = omega arith in ap (λ (k : ℕ). bytes f k i && bytes f k (1 + i)) e);
-}
+pub pairs_by : (f : List ℕ) (o : ℕ) (P : ℕ → ℕ → Type 0) → ((x y : ℕ) → P x y → y ≡ bit_and x (x / 2)) → (n r : ℕ) → GatheredBy P f o n r → Paired f o (suc n) r
+pairs_by f o P h zero r g = first-pair f o g.1.0 (h g.0 r g.1.1)
+pairs_by f o P h (suc n) r g =
+    let s = g.1.1 in
+    subst (Paired f o (suc (suc n))) (sym s.joined) (one-more-pair f o (suc n) (pairs_by f o P h n g.0 g.1.0) s.read (h s.word s.part s.made))
 
 -- ---- the masks
 

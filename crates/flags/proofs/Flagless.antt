@@ -1,5 +1,5 @@
--- Eight words of eight bytes each, or-ed, four and four: the result is 0 exactly if no byte of the 64 has a bit. Flagless blocks and flagless bytes in a row are flagless.
-use Prim.Native.Nat.{ℕ, zero, suc, ◌+◌, ◌*◌, ◌/◌, ◌%◌, ◌≤◌, ◌<◌}
+-- Eight words of eight bytes each, or-ed: the result is 0 exactly if no byte of the 64 has a bit. Flagless blocks and flagless bytes in a row are flagless.
+use Prim.Native.Nat.{ℕ, zero, suc, ◌+◌, ◌-◌, ◌*◌, ◌/◌, ◌%◌, ◌≤◌, ◌<◌}
 use native.Mathlib.Omega.{arith}
 use native.Mathlib.Nat.{add-zero}
 use mathlib.Core.Path.{◌≡◌, refl, sym, ap, ap₂, ◌∙◌, subst}
@@ -13,8 +13,8 @@ use borrow.Author.Tests.{eqb-true, eq-eqb}
 use Rattle.rules.proofs.Truth.{or_left, or_right, and_left, and_right}
 use Rattle.plane.specs.Words.{bit}
 use Rattle.packing.specs.Packing.{bytes, Eight}
-use Rattle.flags.specs.Flags.{some, Gathered, FlaglessBlock, no_flags}
-use Rattle.plane.proofs.Cases.{le_or_lt, or_false}
+use Rattle.flags.specs.Flags.{some, Gathered, JoinedBy, GatheredBy, FlaglessBlock, no_flags}
+use Rattle.plane.proofs.Cases.{le_or_lt}
 use Rattle.plane.proofs.BitLaws.{bit-or, bit-above, zero_bit}
 use Rattle.plane.proofs.LowestBit.{no_bits}
 
@@ -38,14 +38,6 @@ pub or_assoc : (a b c : Bool) → a || (b || c) ≡ (a || b) || c
 or_assoc true b c = refl
 or_assoc false b c = refl
 
--- one of n, or one of the m after them
-pub some_more : (g h : ℕ → Bool) (n m : ℕ) → ((j : ℕ) → h j ≡ g (n + j)) → some g n || some h m ≡ some g (n + m)
-unfolding some
-some_more g h n zero e = or_false (some g n) ∙ ap (some g) (sym (add-zero n))
-some_more g h n (suc m) e =
-    let q : suc (n + m) ≡ n + suc m = omega arith in
-    or_assoc (some g n) (some h m) (h m) ∙ ap₂ ◌||◌ (some_more g h n m e) (e m) ∙ ap (some g) q
-
 -- ---- words of eight bytes
 
 -- the first word, and one word more
@@ -60,18 +52,53 @@ one_more f o n {x} {y} g e = record {
   at = λ i h. bit-or x y i ∙ ap₂ ◌||◌ (g.at i h) (e.reads.at i h);
 }
 
--- four words in a row, and eight
-pub four-words : (f : List ℕ) (o : ℕ) {x₀ x₁ x₂ x₃ : ℕ} → Eight f o x₀ → Eight f (o + 8) x₁ → Eight f (o + 16) x₂ → Eight f (o + 24) x₃
-    → Gathered f o 4 (bit_or (bit_or (bit_or x₀ x₁) x₂) x₃)
-four-words f o e₀ e₁ e₂ e₃ = one_more f o 3 (one_more f o 2 (one_more f o 1 (first f o e₀) e₁) e₂) e₃
+-- what is made of one word more
+joined_by : (f : List ℕ) (o q : ℕ) {P : ℕ → ℕ → Type 0} {x : ℕ} (y : ℕ) → Eight f o x → P x y → JoinedBy P f o q (bit_or q y)
+joined_by f o q {x = x} y e p = record { word = x; part = y; read = e; made = p; joined = refl }
 
-pub eight-words : (f : List ℕ) (o : ℕ) {x y : ℕ} → Gathered f o 4 x → Gathered f (o + 32) 4 y → Gathered f o 8 (bit_or x y)
-eight-words f o {x} {y} p q = record {
-  below = or_lt 64 x y p.below q.below;
-  at = λ i h. bit-or x y i ∙ ap₂ ◌||◌ (p.at i h) (q.at i h)
-      ∙ some_more (λ j. bytes f (o + 8 * j) i) (λ j. bytes f (o + 32 + 8 * j) i) 4 4
-      (λ j. let e : o + 32 + 8 * j ≡ o + 8 * (4 + j) = omega arith in ap (λ (k : ℕ). bytes f k i) e);
-}
+-- of eight words
+pub gathered_by : (f : List ℕ) (o : ℕ) (P : ℕ → ℕ → Type 0) {x₀ x₁ x₂ x₃ x₄ x₅ x₆ x₇ : ℕ} (y₀ y₁ y₂ y₃ y₄ y₅ y₆ y₇ : ℕ)
+    → Eight f o x₀ → Eight f (o + 8) x₁ → Eight f (o + 16) x₂ → Eight f (o + 24) x₃ → Eight f (o + 32) x₄ → Eight f (o + 40) x₅ → Eight f (o + 48) x₆ → Eight f (o + 56) x₇
+    → P x₀ y₀ → P x₁ y₁ → P x₂ y₂ → P x₃ y₃ → P x₄ y₄ → P x₅ y₅ → P x₆ y₆ → P x₇ y₇
+    → GatheredBy P f o 7 (bit_or (bit_or (bit_or (bit_or (bit_or (bit_or (bit_or y₀ y₁) y₂) y₃) y₄) y₅) y₆) y₇)
+gathered_by f o P {x₀} y₀ y₁ y₂ y₃ y₄ y₅ y₆ y₇ e₀ e₁ e₂ e₃ e₄ e₅ e₆ e₇ p₀ p₁ p₂ p₃ p₄ p₅ p₆ p₇ =
+    let q₁ = bit_or y₀ y₁ in
+    let q₂ = bit_or q₁ y₂ in
+    let q₃ = bit_or q₂ y₃ in
+    let q₄ = bit_or q₃ y₄ in
+    let q₅ = bit_or q₄ y₅ in
+    let q₆ = bit_or q₅ y₆ in (
+      q₆,
+      (
+        (
+          q₅,
+          (
+            (
+              q₄,
+              (
+                (
+                  q₃,
+                  (
+                    (q₂, ((q₁, ((y₀, ((x₀, (e₀, p₀)), joined_by f (o + 8) y₀ y₁ e₁ p₁)), joined_by f (o + 16) q₁ y₂ e₂ p₂)), joined_by f (o + 24) q₂ y₃ e₃ p₃)),
+                    joined_by f (o + 32) q₃ y₄ e₄ p₄,
+                  ),
+                ),
+                joined_by f (o + 40) q₄ y₅ e₅ p₅,
+              ),
+            ),
+            joined_by f (o + 48) q₅ y₆ e₆ p₆,
+          ),
+        ),
+        joined_by f (o + 56) q₆ y₇ e₇ p₇,
+      ),
+    )
+
+-- the words themselves
+pub words_by : (f : List ℕ) (o : ℕ) (P : ℕ → ℕ → Type 0) → ((x y : ℕ) → P x y → y ≡ x) → (n r : ℕ) → GatheredBy P f o n r → Gathered f o (suc n) r
+words_by f o P h zero r g = first f o (subst (Eight f o) (sym (h g.0 r g.1.1)) g.1.0)
+words_by f o P h (suc n) r g =
+    let s = g.1.1 in
+    subst (Gathered f o (suc (suc n))) (sym s.joined) (one_more f o (suc n) (words_by f o P h n g.0 g.1.0) (subst (Eight f (o + 8 * suc n)) (sym (h s.word s.part s.made)) s.read))
 
 -- ---- no bit
 
@@ -96,12 +123,8 @@ module _ (f : List ℕ) (o x : ℕ) (g : Gathered f o 8 x) where
       g.at i h
       ∙ none-some (λ j. bytes f (o + 8 * j) i) 8 (λ j l. byte_bit f o (8 * j + i / 8) (i % 8) i j refl refl ∙ q (8 * j + i / 8) (i % 8) (omega arith) (omega arith))
 
-  flagless-is : FlaglessBlock f o (eqb x 0)
+  pub flagless-is : FlaglessBlock f o (eqb x 0)
   flagless-is = record { yes = λ e. clear (eqb-true x 0 e); no = λ q. eq-eqb x 0 (no_bits x g.below (none q)) }
-
--- the or of eight words in a row tells whether the block is flagless
-pub block_is : (f : List ℕ) (o : ℕ) {x y : ℕ} → Gathered f o 4 x → Gathered f (o + 32) 4 y → FlaglessBlock f o (eqb (bit_or x y) 0)
-block_is f o {x} {y} p q = flagless-is f o (bit_or x y) (eight-words f o p q)
 
 -- ---- a byte
 

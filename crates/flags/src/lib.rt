@@ -1,11 +1,10 @@
 // Tests of many flag bytes at once.
 #![tactic(auto)]
 
-ghost use Rattle.std.specs.Prelude.{◌+◌, ◌/◌, ◌≤◌, ◌≡◌, length};
-ghost use Rattle.std.specs.Int.Bits.{bit_and};
+ghost use Rattle.std.specs.Prelude.{◌+◌, ◌≤◌, ◌≡◌, length};
 ghost use Rattle.rules.specs.Lists.{any};
 ghost use Rattle.rules.specs.Samples.{bad};
-ghost use Rattle.flags.specs.Flags.{Gathered, Paired, FlaglessBlock, no_flags};
+ghost use Rattle.flags.specs.Flags.{GatheredBy, FlaglessBlock, no_flags};
 
 use packing::eight;
 
@@ -21,38 +20,28 @@ pub fn has_bad(flags: &[u8]) -> bool
 fn bad_block(flags: &[u8; 64]) -> bool
     ensures { result ≡ any bad flags.now }
 {
-    let bits = or_bits(flags, 0) | or_bits(flags, 32);
+    let bits = gather(flags, 0, |x| x);
     if bits == 0 {
         return false;
     }
-    let pairs = or_pairs(flags, 0) | or_pairs(flags, 32);
+    let pairs = gather(flags, 0, |x| x & (x >> 1));
     ((bits & 0xf0f0_f0f0_f0f0_f0f0) | (pairs & 0x0202_0202_0202_0202)) != 0
 }
 
-// The bits of the 32 flag bytes from o on, eight bytes or-ed with eight.
-fn or_bits(flags: &[u8], o: usize) -> u64
-    requires { o + 32 ≤ length flags.now }
-    ensures { Gathered flags.now o 4 result }
+// The 64 flag bytes from o on, as words of eight bytes: what `part` makes of each word, or-ed.
+fn gather<F: Fn(u64) -> u64>(flags: &[u8], o: usize, part: F) -> u64
+    requires room { o + 64 ≤ length flags.now }
+    requires called { F.IsAlwaysCallable part }
+    ensures { GatheredBy (F.post part) flags.now o 7 result }
 {
-    eight(flags, o) | eight(flags, o + 8) | eight(flags, o + 16) | eight(flags, o + 24)
-}
-
-// The same of each bit with the one above it: the P of a byte with its N.
-fn or_pairs(flags: &[u8], o: usize) -> u64
-    requires { o + 32 ≤ length flags.now }
-    ensures { Paired flags.now o 4 result }
-{
-    pair(eight(flags, o))
-        | pair(eight(flags, o + 8))
-        | pair(eight(flags, o + 16))
-        | pair(eight(flags, o + 24))
-}
-
-// Each bit with the one above it.
-fn pair(x: u64) -> u64
-    ensures { result ≡ bit_and x (x / 2) }
-{
-    x & (x >> 1)
+    part(eight(flags, o))
+        | part(eight(flags, o + 8))
+        | part(eight(flags, o + 16))
+        | part(eight(flags, o + 24))
+        | part(eight(flags, o + 32))
+        | part(eight(flags, o + 40))
+        | part(eight(flags, o + 48))
+        | part(eight(flags, o + 56))
 }
 
 // Whether one of some flag bytes is bad, by the or of all, byte by byte.
@@ -88,5 +77,5 @@ pub fn flagless_block(flags: &[u8], o: usize) -> bool
     requires { o + 64 ≤ length flags.now }
     ensures { FlaglessBlock flags.now o result }
 {
-    (or_bits(flags, o) | or_bits(flags, o + 32)) == 0
+    gather(flags, o, |x| x) == 0
 }

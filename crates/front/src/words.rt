@@ -8,7 +8,8 @@ use packing::Planes;
 use plane::slide;
 
 // Words of 64 ticks, bit i for the i-th tick of the word; a 1 behind a name: the 64 ticks before.
-#[derive(Clone, Copy)]
+// Stays: a field for each word, since the definition `front_of` says what each field holds.
+#[derive(Clone, Copy, PartialEq, Default)]
 pub struct Front {
     // A, P and N of the ticks taken last
     pub a: u64,
@@ -94,53 +95,12 @@ pub fn advance(f: Front, x: Planes, r: u32) -> Front
 pub fn is_blank(f: Front) -> bool
     ensures { result ≡ blank f }
 {
-    (f.a == 0)
-        & ((f.a1 == 0)
-            & ((f.p == 0)
-                & ((f.p1 == 0)
-                    & ((f.n == 0)
-                        & ((f.n1 == 0)
-                            & ((f.l == 0)
-                                & ((f.l1 == 0)
-                                    & ((f.k == 0)
-                                        & ((f.k1 == 0)
-                                            & ((f.h == 0)
-                                                & ((f.h1 == 0)
-                                                    & ((f.e == 0)
-                                                        & ((f.e1 == 0)
-                                                            & ((f.e2 == 0)
-                                                                & ((f.e3 == 0)
-                                                                    & ((f.m == 0)
-                                                                        & ((f.m1 == 0)
-                                                                            & ((f.m2 == 0)
-                                                                                & ((f.m3
-                                                                                    == 0))))))))))))))))))))
+    f == Front::default()
 }
 
 // The words before the first tick.
 pub fn no_front() -> Front
     ensures { result ≡ front_of [] }
 {
-    Front {
-        a: 0,
-        a1: 0,
-        p: 0,
-        p1: 0,
-        n: 0,
-        n1: 0,
-        l: 0,
-        l1: 0,
-        k: 0,
-        k1: 0,
-        h: 0,
-        h1: 0,
-        e: 0,
-        e1: 0,
-        e2: 0,
-        e3: 0,
-        m: 0,
-        m1: 0,
-        m2: 0,
-        m3: 0,
-    }
+    Front::default()
 }

@@ -2,7 +2,6 @@
 #![tactic(auto)]
 
 ghost use Rattle.std.specs.Prelude.{◌<◌, ◌≡◌, cond};
-ghost use Rattle.plane.specs.Words.{bit};
 ghost use Rattle.marking.specs.Marks.{with_word_lem, without_word_lem, AnyWord, TwiceWord, which_in, last_in, behind_of};
 
 use plane::{Nth, marked};

@@ -3,14 +3,17 @@ use Prim.Native.Nat.{ℕ, zero, suc, ◌+◌, ◌-◌, ◌*◌, ◌/◌, ◌%◌
 use native.Mathlib.Omega.{arith}
 use mathlib.Core.Path.{◌≡◌, refl, sym, ap, ◌∙◌}
 use mathlib.Core.Bool.{Bool, true, false, not, ◌&&◌, cond, and-false}
+use mathlib.Core.List.{List}
 use lib.Bits.{bit_or}
 use lib.Dec.{leb, ltb, eqb}
+use lib.ListN.{length, get_or, get_or-eq_default}
 use borrow.Author.Tests.{ltb-true, ltb-false, leb-true, leb-false, eqb-true, eqb-false, le-leb, lt-leb, ne_eqb}
 use Rattle.rules.specs.Replies.{position, is_position}
 use Rattle.rules.proofs.Truth.{impossible, and_left, and_right}
 use Rattle.plane.specs.Words.{bit, Holds, Slid}
 use Rattle.plane.proofs.BitLaws.{zero_bit}
-use Rattle.masks.specs.Masks.{covers_from, phantom_from, cover_word_lem, phantom_word_lem, Across, CoverMask, PhantomMask}
+use Rattle.masks.specs.declared.TheConstants.{COVERED, REMOVED}
+use Rattle.masks.specs.Masks.{covers_from, phantom_from, row_bit, Across, Shown, CoverMask, PhantomMask}
 
 -- ---- all numbers below n pass
 below : ℕ → (ℕ → Bool) → Bool
@@ -36,20 +39,7 @@ same-is true b h = sym h
 same-is false true h = absurd (impossible (sym h))
 same-is false false h = refl
 
--- ---- the words, by the number that a match has found
-
-pub cover-rest : (k : ℕ) → (k ≡ 1 → ⊥) → (k ≡ 2 → ⊥) → (k ≡ 3 → ⊥) → (k ≡ 4 → ⊥) → 0 ≡ cover_word_lem k
-cover-rest k a b c d = rw (ne_eqb k 1 a, ne_eqb k 2 b, ne_eqb k 3 c, ne_eqb k 4 d)
-
-pub phantom-rest : (k : ℕ) → (k ≡ 1 → ⊥) → (k ≡ 2 → ⊥) → (k ≡ 3 → ⊥) → 0 ≡ phantom_word_lem k
-phantom-rest k a b c = rw (ne_eqb k 1 a, ne_eqb k 2 b, ne_eqb k 3 c)
-
 -- ---- two words in a row
-
--- bit n of words in a row
-row_bit : (ℕ → ℕ) → ℕ → Bool
-unfolding bit
-row_bit w n = bit (w (n / 64)) (n % 64)
 
 pub across-none : (a b : ℕ) → Across a b 0 a
 across-none a b =
@@ -90,21 +80,43 @@ across_slid a b r x h l s =
     }
 
 -- 64 bits of words in a row, from bit g on
-row_across : (w : ℕ → ℕ) (g i a b x : ℕ) → i < 64 → a ≡ w (g / 64) → b ≡ w (g / 64 + 1) → Across a b (g % 64) x → bit x i ≡ row_bit w (g + i)
+row_across : (w : List ℕ) (g i a b x : ℕ) → i < 64 → a ≡ get_or w (g / 64) 0 → b ≡ get_or w (g / 64 + 1) 0 → Across a b (g % 64) x → bit x i ≡ row_bit w (g + i)
 unfolding row_bit
 row_across w g i a b x h ea eb s = go (ltb (i + g % 64) 64) refl
   where
-    go : (c : Bool) → ltb (i + g % 64) 64 ≡ c → bit x i ≡ bit (w ((g + i) / 64)) ((g + i) % 64)
+    go : (c : Bool) → ltb (i + g % 64) 64 ≡ c → bit x i ≡ bit (get_or w ((g + i) / 64) 0) ((g + i) % 64)
     go true e =
         let l = ltb-true (i + g % 64) 64 e in
         let p : g / 64 ≡ (g + i) / 64 = omega arith in
         let q : i + g % 64 ≡ (g + i) % 64 = omega arith in
-        s.near i l ∙ ap (λ (z : ℕ). bit z (i + g % 64)) (ea ∙ ap w p) ∙ ap (bit (w ((g + i) / 64))) q
+        s.near i l ∙ ap (λ (z : ℕ). bit z (i + g % 64)) (ea ∙ ap (λ (k : ℕ). get_or w k 0) p) ∙ ap (bit (get_or w ((g + i) / 64) 0)) q
     go false e =
         let l = ltb-false (i + g % 64) 64 e in
         let p : g / 64 + 1 ≡ (g + i) / 64 = omega arith in
         let q : i + g % 64 - 64 ≡ (g + i) % 64 = omega arith in
-        s.far i h (omega arith) ∙ ap (λ (z : ℕ). bit z (i + g % 64 - 64)) (eb ∙ ap w p) ∙ ap (bit (w ((g + i) / 64))) q
+        s.far i h (omega arith) ∙ ap (λ (z : ℕ). bit z (i + g % 64 - 64)) (eb ∙ ap (λ (k : ℕ). get_or w k 0) p) ∙ ap (bit (get_or w ((g + i) / 64) 0)) q
+
+row_first : (w : List ℕ) (n : ℕ) → get_or w 0 0 ≡ 0 → n < 64 → row_bit w n ≡ false
+unfolding row_bit
+row_first w n e h = let z : n / 64 ≡ 0 = omega arith in ap (λ (k : ℕ). bit (get_or w k 0) (n % 64)) z ∙ ap (λ (x : ℕ). bit x (n % 64)) e ∙ zero_bit (n % 64)
+
+row_last : (w : List ℕ) (k n : ℕ) → length w ≡ k → k * 64 ≤ n → row_bit w n ≡ false
+unfolding row_bit
+row_last w k n e h = ap (λ (x : ℕ). bit x (n % 64)) (get_or-eq_default w 0 {n = n / 64} (omega arith)) ∙ zero_bit (n % 64)
+
+pub shown_law : (w : List ℕ) (q t g a b x : ℕ) → q + 177 ≤ t → g ≡ t - q - 177 → a ≡ get_or w (g / 64) 0 → b ≡ get_or w (g / 64 + 1) 0 → Across a b (g % 64) x → Shown w q t x
+shown_law w q t g a b x h e ea eb s =
+    record {
+      at = λ i u n l y z. let p : g + i ≡ n = omega arith in row_across w g i a b x l ea eb s ∙ ap (row_bit w) p;
+      before = λ i u l y z. absurd (omega arith);
+    }
+
+pub shown_none : (w : List ℕ) (q t : ℕ) → get_or w 0 0 ≡ 0 → ((i u : ℕ) → i < 64 → t + i ≡ u + 242 → u + 1 < q) → Shown w q t 0
+shown_none w q t e h =
+    record {
+      at = λ i u n l y z. let p : u + 1 < q = h i u l y in zero_bit i ∙ sym (row_first w n e (omega arith));
+      before = λ i u l y z. zero_bit i;
+    }
 
 -- ---- covering: n is u + 65 - q
 
@@ -113,39 +125,27 @@ cover_at n = leb 64 n && (leb ((n - 64) % 12) 2 && is_position ((n - 64) / 12))
 
 cover_tried_lem : ℕ → Bool
 unfolding row_bit cover_at same
-cover_tried_lem n = same (row_bit cover_word_lem n) (cover_at n)
+cover_tried_lem n = same (row_bit COVERED n) (cover_at n)
 
 cover_tried : below 320 cover_tried_lem ≡ true
 unfolding below cover_tried_lem
 cover_tried = refl
 
-far-cover : (k : ℕ) → 5 ≤ k → cover_word_lem k ≡ 0
-far-cover k h =
-    rw (ne_eqb k 1 (λ e. omega arith), ne_eqb k 2 (λ e. omega arith), ne_eqb k 3 (λ e. omega arith), ne_eqb k 4 (λ e. omega arith))
-
 not-position : (k : ℕ) → 18 ≤ k → is_position k ≡ false
 not-position k h = rw (lt-leb k 14 (omega arith), ne_eqb k 17 (λ e. omega arith))
 
-cover-far : (n : ℕ) → 320 ≤ n → row_bit cover_word_lem n ≡ cover_at n
-unfolding row_bit cover_at
+cover-far : (n : ℕ) → 320 ≤ n → row_bit COVERED n ≡ cover_at n
+unfolding cover_at
 cover-far n h =
-    ap (λ (w : ℕ). bit w (n % 64)) (far-cover (n / 64) (omega arith)) ∙ zero_bit (n % 64)
+    row_last COVERED 5 n refl (omega arith)
     ∙ sym (rw (not-position ((n - 64) / 12) (omega arith), and-false (leb ((n - 64) % 12) 2), and-false (leb 64 n)))
 
-cover_out : (n : ℕ) → 320 ≤ n → row_bit cover_word_lem n ≡ false
-unfolding row_bit
-cover_out n h = ap (λ (w : ℕ). bit w (n % 64)) (far-cover (n / 64) (omega arith)) ∙ zero_bit (n % 64)
-
-row_is : (n : ℕ) → bit (cover_word_lem (n / 64)) (n % 64) ≡ row_bit cover_word_lem n
-unfolding row_bit
-row_is n = refl
-
-cover_all : (n : ℕ) → row_bit cover_word_lem n ≡ cover_at n
+cover_all : (n : ℕ) → row_bit COVERED n ≡ cover_at n
 unfolding cover_tried_lem
 cover_all n = go (ltb n 320) refl
   where
-    go : (c : Bool) → ltb n 320 ≡ c → row_bit cover_word_lem n ≡ cover_at n
-    go true e = same-is (row_bit cover_word_lem n) (cover_at n) (below_at 320 cover_tried_lem cover_tried n (ltb-true n 320 e))
+    go : (c : Bool) → ltb n 320 ≡ c → row_bit COVERED n ≡ cover_at n
+    go true e = same-is (row_bit COVERED n) (cover_at n) (below_at 320 cover_tried_lem cover_tried n (ltb-true n 320 e))
     go false e = cover-far n (ltb-false n 320 e)
 
 position-cond : (b : Bool) (k : ℕ) → is_position (cond b k 15) ≡ (b && is_position k)
@@ -178,20 +178,19 @@ covers_as q u n z = go (leb 64 n) refl
         position-cond (leb q (u + 1) && leb ((u + 1 - q) % 12) 2) ((u + 1 - q) / 12)
         ∙ rw (lt-leb q (u + 1) (omega (arith, leb-false 64 n e)))
 
-covered_bit : (q u n : ℕ) → q + n ≡ u + 65 → row_bit cover_word_lem n ≡ covers_from q u
-covered_bit q u n z = cover_all n ∙ sym (covers_as q u n z)
-
 -- what lies too far off is not covered
-pub not_covered : (q u : ℕ) → u + 1 < q → covers_from q u ≡ false
+not_covered : (q u : ℕ) → u + 1 < q → covers_from q u ≡ false
 unfolding covers_from position
 not_covered q u h = rw (lt-leb q (u + 1) (omega arith))
 
-pub cover_mask_law : (q t g a b x : ℕ) → q + 177 ≤ t → g ≡ t - q - 177 → a ≡ cover_word_lem (g / 64) → b ≡ cover_word_lem (g / 64 + 1) → Across a b (g % 64) x → CoverMask q t x
-cover_mask_law q t g a b x h e ea eb s =
-    record { at = λ i u l z. row_across cover_word_lem g i a b x l ea eb s ∙ covered_bit q u (g + i) (omega arith) }
-
-pub cover-none : (q t : ℕ) → ((i u : ℕ) → i < 64 → t + i ≡ u + 242 → u + 1 < q) → CoverMask q t 0
-cover-none q t h = record { at = λ i u l z. zero_bit i ∙ sym (not_covered q u (h i u l z)) }
+pub cover_mask_law : (q t x : ℕ) → Shown COVERED q t x → CoverMask q t x
+cover_mask_law q t x s = record { at = λ i u l z. go i u l z (leb q (u + 65)) refl }
+  where
+    go : (i u : ℕ) → i < 64 → t + i ≡ u + 242 → (c : Bool) → leb q (u + 65) ≡ c → bit x i ≡ covers_from q u
+    go i u l z true e =
+        let y : q + (u + 65 - q) ≡ u + 65 = omega (arith, leb-true q (u + 65) e) in
+        s.at i u (u + 65 - q) l z y ∙ cover_all (u + 65 - q) ∙ sym (covers_as q u (u + 65 - q) y)
+    go i u l z false e = let f = leb-false q (u + 65) e in s.before i u l z f ∙ sym (not_covered q u (omega arith))
 
 -- ---- phantoms
 
@@ -200,28 +199,23 @@ phantom_at n = leb 75 n && leb n 235 && leb ((n - 63) % 12) 4
 
 phantom_tried_lem : ℕ → Bool
 unfolding row_bit phantom_at same
-phantom_tried_lem n = same (row_bit phantom_word_lem n) (phantom_at n)
+phantom_tried_lem n = same (row_bit REMOVED n) (phantom_at n)
 
-phantom_tried : below 320 phantom_tried_lem ≡ true
+phantom_tried : below 256 phantom_tried_lem ≡ true
 unfolding below phantom_tried_lem
 phantom_tried = refl
 
-far-phantom : (k : ℕ) → 4 ≤ k → phantom_word_lem k ≡ 0
-far-phantom k h = rw (ne_eqb k 1 (λ e. omega arith), ne_eqb k 2 (λ e. omega arith), ne_eqb k 3 (λ e. omega arith))
+phantom-far : (n : ℕ) → 256 ≤ n → row_bit REMOVED n ≡ phantom_at n
+unfolding phantom_at
+phantom-far n h = row_last REMOVED 4 n refl (omega arith) ∙ sym (rw (le-leb 75 n (omega arith), lt-leb n 235 (omega arith)))
 
-phantom-far : (n : ℕ) → 320 ≤ n → row_bit phantom_word_lem n ≡ phantom_at n
-unfolding row_bit phantom_at
-phantom-far n h =
-    ap (λ (w : ℕ). bit w (n % 64)) (far-phantom (n / 64) (omega arith)) ∙ zero_bit (n % 64)
-    ∙ sym (rw (le-leb 75 n (omega arith), lt-leb n 235 (omega arith)))
-
-phantom-all : (n : ℕ) → row_bit phantom_word_lem n ≡ phantom_at n
+phantom-all : (n : ℕ) → row_bit REMOVED n ≡ phantom_at n
 unfolding phantom_tried_lem
-phantom-all n = go (ltb n 320) refl
+phantom-all n = go (ltb n 256) refl
   where
-    go : (c : Bool) → ltb n 320 ≡ c → row_bit phantom_word_lem n ≡ phantom_at n
-    go true e = same-is (row_bit phantom_word_lem n) (phantom_at n) (below_at 320 phantom_tried_lem phantom_tried n (ltb-true n 320 e))
-    go false e = phantom-far n (ltb-false n 320 e)
+    go : (c : Bool) → ltb n 256 ≡ c → row_bit REMOVED n ≡ phantom_at n
+    go true e = same-is (row_bit REMOVED n) (phantom_at n) (below_at 256 phantom_tried_lem phantom_tried n (ltb-true n 256 e))
+    go false e = phantom-far n (ltb-false n 256 e)
 
 phantoms_as : (q u n : ℕ) → q + n ≡ u + 65 → phantom_from true q u ≡ phantom_at n
 unfolding phantom_from phantom_at
@@ -237,22 +231,18 @@ not-phantom : (q u : ℕ) → u + 1 < q → phantom_from true q u ≡ false
 unfolding phantom_from
 not-phantom q u h = rw (lt-leb (q + 10) u (omega arith))
 
-pub phantom_mask_law : (q t g a b x : ℕ) (s : Bool) → s ≡ true → q + 177 ≤ t → g ≡ t - q - 177 → a ≡ phantom_word_lem (g / 64) → b ≡ phantom_word_lem (g / 64 + 1) → Across a b (g % 64) x
-    → PhantomMask q s t x
-phantom_mask_law q t g a b x s es h e ea eb c =
-    record {
-      at = λ i u l z.
-          row_across phantom_word_lem g i a b x l ea eb c ∙ phantom-all (g + i) ∙ sym (phantoms_as q u (g + i) (omega arith)) ∙ ap (λ (y : Bool). phantom_from y q u) (sym es);
-    }
-
-pub phantom-none : (q t : ℕ) (s : Bool) → ((i u : ℕ) → i < 64 → t + i ≡ u + 242 → u + 1 < q) → s ≡ true → PhantomMask q s t 0
-phantom-none q t s h es = record { at = λ i u l z. zero_bit i ∙ sym (ap (λ (y : Bool). phantom_from y q u) es ∙ not-phantom q u (h i u l z)) }
+pub phantom_mask_law : (q t x : ℕ) (s : Bool) → s ≡ true → Shown REMOVED q t x → PhantomMask q s t x
+phantom_mask_law q t x s es h = record { at = λ i u l z. go i u l z (leb q (u + 65)) refl ∙ ap (λ (y : Bool). phantom_from y q u) (sym es) }
+  where
+    go : (i u : ℕ) → i < 64 → t + i ≡ u + 242 → (c : Bool) → leb q (u + 65) ≡ c → bit x i ≡ phantom_from true q u
+    go i u l z true e =
+        let y : q + (u + 65 - q) ≡ u + 65 = omega (arith, leb-true q (u + 65) e) in
+        h.at i u (u + 65 - q) l z y ∙ phantom-all (u + 65 - q) ∙ sym (phantoms_as q u (u + 65 - q) y)
+    go i u l z false e = let f = leb-false q (u + 65) e in h.before i u l z f ∙ sym (not-phantom q u (omega arith))
 
 pub no_suspect : (q t : ℕ) (s : Bool) → s ≡ false → PhantomMask q s t 0
 unfolding phantom_from
 no_suspect q t s es = record { at = λ i u l z. zero_bit i ∙ sym (rw es) }
-
--- ---- one tick
 
 -- ---- a reply that opens at tick i of the block
 

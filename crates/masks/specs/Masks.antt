@@ -1,5 +1,5 @@
 -- Words of 64 ticks u, from t-242 on: those that a reply covers, and those at which a bracket removes it.
-use Rattle.std.specs.Prelude.{ℕ, ◌+◌, ◌-◌, ◌%◌, ◌<◌, ◌≤◌, ◌≡◌, Bool, ◌&&◌, cond, leb, eqb}
+use Rattle.std.specs.Prelude.{ℕ, ◌+◌, ◌-◌, ◌/◌, ◌%◌, ◌<◌, ◌≤◌, ◌≡◌, Bool, false, ◌&&◌, List, leb, get_or}
 use Rattle.rules.specs.Replies.{position, is_position}
 use Rattle.plane.specs.Words.{bit}
 
@@ -12,12 +12,15 @@ covers_from q u = is_position (position q u)
 unfoldable pub phantom_from : Bool → ℕ → ℕ → Bool
 phantom_from b q u = b && leb (q + 10) u && leb u (q + 170) && leb ((u + 2 - q) % 12) 4
 
--- 64 ticks of those from 65 before F1 on, the k-th
-abbrev pub cover_word_lem : ℕ → ℕ
-cover_word_lem k = cond (eqb k 1) 0x7007007007007007 (cond (eqb k 2) 0x0700700700700700 (cond (eqb k 3) 0x0000070070070070 (cond (eqb k 4) 0x0000000000007000 0)))
+-- bit n of words in a row; behind the last no bit is set
+unfoldable pub row_bit : List ℕ → ℕ → Bool
+unfolding bit
+row_bit w n = bit (get_or w (n / 64) 0) (n % 64)
 
-abbrev pub phantom_word_lem : ℕ → ℕ
-phantom_word_lem k = cond (eqb k 1) 0xf80f80f80f80f800 (cond (eqb k 2) 0x0f80f80f80f80f80 (cond (eqb k 3) 0x00000f80f80f80f8 0))
+-- of words in a row that start 65 ticks before q, those of the ticks u
+pub record Shown (w : List ℕ) (q t x : ℕ) : Type 0 where
+  pub at : (i u n : ℕ) → i < 64 → t + i ≡ u + 242 → q + n ≡ u + 65 → bit x i ≡ row_bit w n
+  pub before : (i u : ℕ) → i < 64 → t + i ≡ u + 242 → u + 65 < q → bit x i ≡ false
 
 -- the 64 bits from bit r of a on, with b behind it
 pub record Across (a b r x : ℕ) : Type 0 where

@@ -1,35 +1,34 @@
 // Words of a block's 64 ticks: those that a reply covers, and those at which a bracket removes it.
 #![tactic(auto)]
 
-ghost use Rattle.std.specs.Prelude.{ℕ, ◌+◌, ◌<◌, ◌≡◌};
-ghost use Rattle.masks.specs.Masks.{cover_word_lem, phantom_word_lem, Across, covers_from, CoverMask, PhantomMask};
+ghost use Rattle.std.specs.Prelude.{ℕ, ◌+◌, ◌<◌, ◌≡◌, get_or};
+ghost use Rattle.masks.specs.Masks.{Across, Shown, CoverMask, PhantomMask};
 
 use plane::{Nth, slide};
 use rules::Tick;
 
-// Of the ticks from 65 before F1 on, the k-th 64: those that a reply covers.
-fn cover_word(k: u32) -> u64
-    ensures { result ≡ cover_word_lem k }
-{
-    match k {
-        1 => 0x7007007007007007,
-        2 => 0x0700700700700700,
-        3 => 0x0000070070070070,
-        4 => 0x0000000000007000,
-        _ => 0,
-    }
-}
+// Words of ticks in a row, from 65 ticks before F1 on: those that a reply covers.
+static COVERED: [u64; 5] = [
+    0,
+    0x7007007007007007,
+    0x0700700700700700,
+    0x0000070070070070,
+    0x0000000000007000,
+];
 
 // The same: those at which a bracket removes it, if it is a potential phantom.
-fn phantom_word(k: u32) -> u64
-    ensures { result ≡ phantom_word_lem k }
+static REMOVED: [u64; 4] = [
+    0,
+    0xf80f80f80f80f800,
+    0x0f80f80f80f80f80,
+    0x00000f80f80f80f8,
+];
+
+// The k-th of words in a row; behind the last no tick is marked.
+fn nth(words: &[u64], k: u32) -> u64
+    ensures { result ≡ get_or words.now k 0 }
 {
-    match k {
-        1 => 0xf80f80f80f80f800,
-        2 => 0x0f80f80f80f80f80,
-        3 => 0x00000f80f80f80f8,
-        _ => 0,
-    }
+    words.get(k as usize).copied().unwrap_or(0)
 }
 
 // The 64 bits from bit r of `first` on, with `second` behind it.
@@ -43,10 +42,11 @@ fn across(first: u64, second: u64, r: u32) -> u64
     slide(first, second, r)
 }
 
-// The ticks u from t-242 on that a reply with F1 at q covers.
-pub fn cover_mask(q: Tick, t: Tick) -> u64
-    requires { t.0 < 65000 }
-    ensures { CoverMask q.0 t.0 result }
+// The ticks u from t-242 on that words mark whose first tick is 65 before q.
+fn shown(words: &[u64], q: Tick, t: Tick) -> u64
+    requires below { t.0 < 65000 }
+    requires first { get_or words.now 0 0 ≡ 0 }
+    ensures { Shown words.now q.0 t.0 result }
 {
     if 65535 < q.0 {
         return 0;
@@ -55,9 +55,17 @@ pub fn cover_mask(q: Tick, t: Tick) -> u64
         return 0;
     }
     let g = t.0 - q.0 - 177;
-    let a = cover_word(g / 64);
-    let b = cover_word(g / 64 + 1);
+    let a = nth(words, g / 64);
+    let b = nth(words, g / 64 + 1);
     across(a, b, g % 64)
+}
+
+// The ticks u from t-242 on that a reply with F1 at q covers.
+pub fn cover_mask(q: Tick, t: Tick) -> u64
+    requires { t.0 < 65000 }
+    ensures { CoverMask q.0 t.0 result }
+{
+    shown(&COVERED, q, t)
 }
 
 // The ticks u from t-242 on at which a bracket removes a reply with F1 at q.
@@ -68,16 +76,7 @@ pub fn phantom_mask(q: Tick, suspect: bool, t: Tick) -> u64
     if !suspect {
         return 0;
     }
-    if 65535 < q.0 {
-        return 0;
-    }
-    if t.0 < q.0 + 177 {
-        return 0;
-    }
-    let g = t.0 - q.0 - 177;
-    let a = phantom_word(g / 64);
-    let b = phantom_word(g / 64 + 1);
-    across(a, b, g % 64)
+    shown(&REMOVED, q, t)
 }
 
 // The ticks of a block that a reply covers whose F1 is the i-th of them.

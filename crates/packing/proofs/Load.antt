@@ -1,79 +1,41 @@
--- Four bytes as a word, joined one by one, each eight bits above the last; and eight bytes, of two such words.
-use Prim.Native.Nat.{ℕ, ◌+◌, ◌-◌, ◌*◌, ◌/◌, ◌%◌, ◌^◌, ◌≤◌, ◌<◌}
+-- Eight bytes as a word, lowest first: the j-th is what is left of the word, shifted down by 8 j bits, in its low eight.
+use Prim.Native.Nat.{ℕ, zero, suc, ◌+◌, ◌*◌, ◌/◌, ◌%◌, ◌^◌, ◌<◌}
 use native.Mathlib.Omega.{arith}
-use native.Mathlib.Nat.{add-zero, lt_of_lt_of_le}
-use mathlib.Core.Path.{◌≡◌, sym, ap, ap₂, ◌∙◌, subst}
-use mathlib.Core.Logic.{⊎_elim}
-use mathlib.Core.Bool.{Bool, ◌||◌}
-use mathlib.Core.List.{List}
+use mathlib.Core.Path.{◌≡◌, sym, ap, ◌∙◌}
+use mathlib.Core.List.{List, [], ◌∷◌}
 use lib.ListN.{get_or}
-use lib.Pow.{pow_mono, shl_lt, shl_exact}
-use lib.Bits.{bit_or, or_lt}
+use Rattle.std.specs.Int.{w64, from_le_bytes}
 use Rattle.plane.specs.Words.{bit}
-use Rattle.packing.specs.Packing.{bytes, Starts, Four, Eight}
-use Rattle.plane.proofs.Cases.{le_or_lt, or_false}
-use Rattle.plane.proofs.BitLaws.{bit-or, bit-above, left, left-high, left-low}
+use Rattle.packing.specs.Packing.{bytes, Eight}
+use Rattle.plane.proofs.BitLaws.{bit-shr, bit-mod}
 
--- k bits more, above the n that are there
-module _ {X : ℕ → Bool} {n y b : ℕ} (k : ℕ) (p : Starts X n y) (l : n + k ≤ 64) (hb : b < 2 ^ k) (e : (r : ℕ) → r < k → bit b r ≡ X (n + r)) where
-  old : (i : ℕ) → i < n → i < 64 → bit y i || bit (left n b) i ≡ X i
-  old i h g = ap (λ (x : Bool). bit y i || x) (left-low n b i g h) ∙ or_false (bit y i) ∙ p.at i h
+module _ (f : List ℕ) (o x : ℕ) (bound : (i : ℕ) → get_or f i 0 < 256)
+    (e : x ≡ from_le_bytes w64 (get_or f o 0 ∷ get_or f (o + 1) 0 ∷ get_or f (o + 2) 0 ∷ get_or f (o + 3) 0
+    ∷ get_or f (o + 4) 0 ∷ get_or f (o + 5) 0 ∷ get_or f (o + 6) 0 ∷ get_or f (o + 7) 0 ∷ [])) where
+  sum : x ≡ get_or f o 0 + get_or f (o + 1) 0 * 256 + get_or f (o + 2) 0 * 65536 + get_or f (o + 3) 0 * 16777216 + get_or f (o + 4) 0 * 4294967296
+      + get_or f (o + 5) 0 * 1099511627776 + get_or f (o + 6) 0 * 281474976710656 + get_or f (o + 7) 0 * 72057594037927936
+  sum = e
 
-  new : (r : ℕ) → r < k → bit y (n + r) || bit (left n b) (n + r) ≡ X (n + r)
-  new r h = ap₂ ◌||◌ (bit-above y n (n + r) p.below (omega arith)) (left-high n b r (omega arith)) ∙ e r h
+  byte : (j : ℕ) → j < 8 → x / 2 ^ (8 * j) % 2 ^ 8 ≡ get_or f (o + j) 0
+  byte zero h =
+      let z : o ≡ o + 0 = omega arith in
+      let q : x / 1 % 256 ≡ get_or f o 0 = omega (arith, sum, bound o) in
+      q ∙ ap (λ (k : ℕ). get_or f k 0) z
+  byte (suc zero) h = omega (arith, sum, bound o, bound (o + 1))
+  byte (suc (suc zero)) h = omega (arith, sum, bound o, bound (o + 1), bound (o + 2))
+  byte (suc (suc (suc zero))) h = omega (arith, sum, bound o, bound (o + 1), bound (o + 2), bound (o + 3))
+  byte (suc (suc (suc (suc zero)))) h = omega (arith, sum, bound o, bound (o + 1), bound (o + 2), bound (o + 3), bound (o + 4))
+  byte (suc (suc (suc (suc (suc zero))))) h = omega (arith, sum, bound o, bound (o + 1), bound (o + 2), bound (o + 3), bound (o + 4), bound (o + 5))
+  byte (suc (suc (suc (suc (suc (suc zero)))))) h = omega (arith, sum, bound o, bound (o + 1), bound (o + 2), bound (o + 3), bound (o + 4), bound (o + 5), bound (o + 6))
+  byte (suc (suc (suc (suc (suc (suc (suc zero))))))) h = omega (arith, sum, bound o, bound (o + 1), bound (o + 2), bound (o + 3), bound (o + 4), bound (o + 5), bound (o + 6), bound (o + 7))
+  byte (suc (suc (suc (suc (suc (suc (suc (suc j)))))))) h = absurd (omega arith)
 
-  small : left n b < 2 ^ (n + k)
-  small =
-      let q : k + n ≡ n + k = omega arith in
-      subst (λ (j : ℕ). left n b < 2 ^ j) q (subst (λ (x : ℕ). x < 2 ^ (k + n)) (sym (shl_exact k n 64 hb (omega arith))) (shl_lt k n hb))
-
-  joined : Starts X (n + k) (bit_or y (left n b))
-  joined = record {
-    below = or_lt (n + k) y (left n b) (lt_of_lt_of_le p.below (pow_mono (omega arith))) small;
-    at = λ i h. bit-or y (left n b) i ∙ ⊎_elim
-        (λ (g : n ≤ i). let q : n + (i - n) ≡ i = omega arith in
-        subst (λ (j : ℕ). bit y j || bit (left n b) j ≡ X j) q (new (i - n) (omega arith)))
-        (λ (g : i < n). old i g (omega arith))
-        (le_or_lt n i);
-  }
-
-module _ (f : List ℕ) (o : ℕ) (bound : (i : ℕ) → get_or f i 0 < 256) where
-  byte_at : (j b : ℕ) → b ≡ get_or f (o + j) 0 → (r : ℕ) → r < 8 → bit b r ≡ bytes f o (8 * j + r)
+  at : (i : ℕ) → i < 64 → bit x i ≡ bytes f o i
   unfolding bytes
-  byte_at j b q r h =
-      let d : j ≡ (8 * j + r) / 8 = omega arith in
-      let m : r ≡ (8 * j + r) % 8 = omega arith in
-      ap (λ (x : ℕ). bit x r) q ∙ ap₂ (λ (k n : ℕ). bit (get_or f (o + k) 0) n) d m
+  at i h =
+      let z : 8 * (i / 8) + i % 8 ≡ i = omega arith in
+      ap (bit x) (sym z) ∙ sym (bit-shr x (8 * (i / 8)) (i % 8)) ∙ sym (bit-mod (x / 2 ^ (8 * (i / 8))) 8 (i % 8) (omega arith))
+      ∙ ap (λ (b : ℕ). bit b (i % 8)) (byte (i / 8) (omega arith))
 
-  fits : (k b : ℕ) → b ≡ get_or f k 0 → b < 2 ^ 8
-  fits k b e = omega (arith, bound k)
-
-  pub four_is : {b₀ b₁ b₂ b₃ : ℕ} → b₀ ≡ get_or f o 0 → b₁ ≡ get_or f (o + 1) 0 → b₂ ≡ get_or f (o + 2) 0 → b₃ ≡ get_or f (o + 3) 0
-      → Four f o (bit_or (bit_or (bit_or b₀ (left 8 b₁)) (left 16 b₂)) (left 24 b₃))
-  four_is {b₀} {b₁} {b₂} {b₃} e₀ e₁ e₂ e₃ = record {
-    starts = joined 8 (joined 8 (joined 8 first
-        (omega arith) (fits (o + 1) b₁ e₁) (byte_at 1 b₁ e₁))
-        (omega arith) (fits (o + 2) b₂ e₂) (byte_at 2 b₂ e₂))
-        (omega arith) (fits (o + 3) b₃ e₃) (byte_at 3 b₃ e₃);
-  }
-    where
-      first : Starts (bytes f o) 8 b₀
-      first = record {
-        below = fits o b₀ e₀;
-        at = λ i h. byte_at 0 b₀ (e₀ ∙ ap (λ (k : ℕ). get_or f k 0) (sym (add-zero o))) i h
-            ∙ (let q : 8 * 0 + i ≡ i = omega arith in ap (bytes f o) q);
-      }
-
--- the bytes from four further on
-four_on : (f : List ℕ) (o r : ℕ) → bytes f (o + 4) r ≡ bytes f o (32 + r)
-unfolding bytes
-four_on f o r =
-    let d : o + 4 + r / 8 ≡ o + (32 + r) / 8 = omega arith in
-    let m : r % 8 ≡ (32 + r) % 8 = omega arith in
-    ap₂ (λ (k n : ℕ). bit (get_or f k 0) n) d m
-
-pub eight_is : (f : List ℕ) (o : ℕ) {x y : ℕ} → Four f o x → Four f (o + 4) y → Eight f o (bit_or x (left 32 y))
-eight_is f o {x} {y} p q = record { reads = record { below = both.below; at = both.at } }
-  where
-    both : Starts (bytes f o) 64 (bit_or x (left 32 y))
-    both = joined 32 p.starts (omega arith) q.starts.below (λ r h. q.starts.at r h ∙ four_on f o r)
+  pub eight_is : Eight f o x
+  eight_is = record { reads = record { below = omega (arith, sum, bound o, bound (o + 1), bound (o + 2), bound (o + 3), bound (o + 4), bound (o + 5), bound (o + 6), bound (o + 7)); at = at } }

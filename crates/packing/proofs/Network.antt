@@ -12,7 +12,7 @@ use lib.Bits.{bit_and, bit_xor, and_lt, xor_lt}
 use borrow.Author.Tests.{le-leb, lt-leb, ltb-true}
 use Rattle.rules.proofs.Truth.{and_left, and_right, impossible}
 use Rattle.plane.specs.Words.{bit}
-use Rattle.packing.specs.Packing.{Reads, lows, highs, swaps, turned}
+use Rattle.packing.specs.Packing.{Reads, Inside, lows, highs, swaps, swapped, turned, Turn}
 use Rattle.plane.proofs.Cases.{le_or_lt, and_false, up_to, below}
 use Rattle.plane.proofs.BitLaws.{xor, bit-and, bit-xor, bit-shr, left, left-high, left-low}
 
@@ -82,8 +82,7 @@ xor_false false = refl
 
 -- ---- an exchange between two words
 
-module _ {X : ℕ → Bool} {σ τ : ℕ → ℕ} {x y : ℕ} (s m : ℕ) (p : Reads X σ x) (q : Reads X τ y) (hm : m < 2 ^ 64)
-    (fits : up_to (λ i. not (bit m i) || ltb (s + i) 64) 64 ≡ true) where
+module _ {X : ℕ → Bool} {σ τ : ℕ → ℕ} {x y : ℕ} (s m : ℕ) (p : Reads X σ x) (q : Reads X τ y) (hm : m < 2 ^ 64) (inside : Inside s m) where
   t : ℕ
   t = bit_and (bit_xor (x / 2 ^ s) y) m
 
@@ -97,12 +96,8 @@ module _ {X : ℕ → Bool} {σ τ : ℕ → ℕ} {x y : ℕ} (s m : ℕ) (p : R
       bit-and (bit_xor (x / 2 ^ s) y) m i
       ∙ ap (λ (b : Bool). b && bit m i) (bit-xor (x / 2 ^ s) y i ∙ ap (λ (b : Bool). xor b (bit y i)) (bit-shr x s i))
 
-  in_range : (i : ℕ) → i < 64 → bit m i ≡ true → s + i < 64
-  in_range i h e =
-      ltb-true (s + i) 64 (ap (λ (b : Bool). not b || ltb (s + i) 64) (sym e) ∙ below (λ i. not (bit m i) || ltb (s + i) 64) 64 fits i h)
-
   high-pick : (i : ℕ) → i < 64 → (b : Bool) → bit m i ≡ b → cond b (bit x (s + i)) (bit y i) ≡ X (cond b (σ (s + i)) (τ i))
-  high-pick i h true e = p.at (s + i) (in_range i h e)
+  high-pick i h true e = p.at (s + i) (inside.marks i h e)
   high-pick i h false e = q.at i h
 
   pub reads-high : Reads X (highs s m σ τ) (bit_xor y (bit_and (bit_xor (x / 2 ^ s) y) m))
@@ -203,17 +198,27 @@ module _ {X : ℕ → Bool} {σ : ℕ → ℕ} {x : ℕ} (k m : ℕ) (p : Reads 
 
 -- ---- the exchanges and swaps of the packing
 
-pub fits4 : up_to (λ i. not (bit 0x0f0f0f0f0f0f0f0f i) || ltb (4 + i) 64) 64 ≡ true
-unfolding bit
-fits4 = refl
+abbrev tested : ℕ → ℕ → ℕ → Bool
+tested s m i = not (bit m i) || ltb (s + i) 64
 
-pub fits2 : up_to (λ i. not (bit 0x3333333333333333 i) || ltb (2 + i) 64) 64 ≡ true
-unfolding bit
-fits2 = refl
+inside_by : (s m : ℕ) → s < 64 → up_to (tested s m) 64 ≡ true → Inside s m
+inside_by s m l fits =
+    record {
+      shift = l;
+      marks = λ i h e. ltb-true (s + i) 64 (ap (λ (b : Bool). not b || ltb (s + i) 64) (sym e) ∙ below (tested s m) 64 fits i h);
+    }
 
-pub fits1 : up_to (λ i. not (bit 0x5555555555555555 i) || ltb (1 + i) 64) 64 ≡ true
+pub inside4 : Inside 4 0x0f0f0f0f0f0f0f0f
 unfolding bit
-fits1 = refl
+inside4 = inside_by 4 0x0f0f0f0f0f0f0f0f (omega arith) refl
+
+pub inside2 : Inside 2 0x3333333333333333
+unfolding bit
+inside2 = inside_by 2 0x3333333333333333 (omega arith) refl
+
+pub inside1 : Inside 1 0x5555555555555555
+unfolding bit
+inside1 = inside_by 1 0x5555555555555555 (omega arith) refl
 
 abbrev apart : ℕ → ℕ → ℕ → Bool
 apart k m i = not (bit m i) || (ltb (k + i) 64 && not (leb k i && bit m (i - k)))
@@ -230,11 +235,11 @@ fits28 : up_to (apart 28 0x00000000f0f0f0f0) 64 ≡ true
 unfolding bit
 fits28 = refl
 
-abbrev swap : ℕ → ℕ → ℕ → ℕ
-swap k m x = bit_xor (bit_xor x (bit_and (bit_xor x (x / 2 ^ k)) m)) (left k (bit_and (bit_xor x (x / 2 ^ k)) m))
-
-pub turn-reads : {X : ℕ → Bool} {σ : ℕ → ℕ} {x : ℕ} → Reads X σ x
-    → Reads X (turned σ) (swap 28 0x00000000f0f0f0f0 (swap 14 0x0000cccc0000cccc (swap 7 0x00aa00aa00aa00aa x)))
+pub turn_is : (x y z r : ℕ) → y ≡ swapped 7 0x00aa00aa00aa00aa x → z ≡ swapped 14 0x0000cccc0000cccc y → r ≡ swapped 28 0x00000000f0f0f0f0 z → Turn x r
 unfolding turned
-turn-reads p =
-    reads_swap 28 0x00000000f0f0f0f0 (reads_swap 14 0x0000cccc0000cccc (reads_swap 7 0x00aa00aa00aa00aa p (omega arith) fits7) (omega arith) fits14) (omega arith) fits28
+turn_is x y z r ey ez er = record {
+  reads = λ X σ p.
+      let q = reads_swap 7 0x00aa00aa00aa00aa p (omega arith) fits7 in
+      let u = reads_swap 14 0x0000cccc0000cccc (subst (Reads X _) (sym ey) q) (omega arith) fits14 in
+      subst (Reads X _) (sym er) (reads_swap 28 0x00000000f0f0f0f0 (subst (Reads X _) (sym ez) u) (omega arith) fits28);
+}

@@ -1,6 +1,6 @@
 -- Words whose bits are taken from places of a source, and what a network of exchanges does to the places.
 -- Each step of the packing is such an exchange; at the end bit i of a plane's word comes from the flag byte of tick o+i.
-use Rattle.std.specs.Prelude.{ℕ, ◌+◌, ◌-◌, ◌/◌, ◌%◌, ◌^◌, ◌<◌, ◌≡◌, Bool, ◌&&◌, cond, List, leb, get_or}
+use Rattle.std.specs.Prelude.{ℕ, ◌+◌, ◌-◌, ◌*◌, ◌/◌, ◌%◌, ◌^◌, ◌<◌, ◌≡◌, Bool, true, ◌&&◌, cond, List, leb, get_or, bit_and, bit_xor}
 use Rattle.rules.specs.Samples.{A, P, N, M}
 use Rattle.packing.specs.declared.Planes.{Planes}
 use Rattle.plane.specs.Words.{bit, Holds, HoldsPart}
@@ -14,15 +14,6 @@ pub record Reads (X : ℕ → Bool) (σ : ℕ → ℕ) (y : ℕ) : Type 0 where
 unfoldable pub bytes : List ℕ → ℕ → ℕ → Bool
 unfolding bit
 bytes f o s = bit (get_or f (o + s / 8) 0) (s % 8)
-
--- y has the n low bits of the source X, and no other
-pub record Starts (X : ℕ → Bool) (n y : ℕ) : Type 0 where
-  pub below : y < 2 ^ n
-  pub at : (i : ℕ) → i < n → bit y i ≡ X i
-
--- a word of four bytes
-pub record Four (f : List ℕ) (o x : ℕ) : Type 0 where
-  pub starts : Starts (bytes f o) 32 x
 
 -- a word of eight bytes
 pub record Eight (f : List ℕ) (o x : ℕ) : Type 0 where
@@ -40,6 +31,11 @@ unfoldable pub highs : ℕ → ℕ → (ℕ → ℕ) → (ℕ → ℕ) → ℕ �
 unfolding bit
 highs s m σ τ i = cond (bit m i) (σ (s + i)) (τ i)
 
+-- each bit that m marks has one s above it
+pub record Inside (s m : ℕ) : Type 0 where
+  pub shift : s < 64
+  pub marks : (i : ℕ) → i < 64 → bit m i ≡ true → s + i < 64
+
 -- what x becomes, and what y becomes, whatever source their bits come from
 pub record Low (s m x y r : ℕ) : Type 0 where
   pub reads : (X : ℕ → Bool) (σ τ : ℕ → ℕ) → Reads X σ x → Reads X τ y → Reads X (lows s m σ τ) r
@@ -51,6 +47,12 @@ pub record High (s m x y r : ℕ) : Type 0 where
 unfoldable pub swaps : ℕ → ℕ → ℕ → ℕ
 unfolding bit
 swaps k m i = cond (bit m i) (k + i) (cond (leb k i && bit m (i - k)) (i - k) i)
+
+-- the word that swaps them
+abbrev pub swapped : ℕ → ℕ → ℕ → ℕ
+swapped k m x =
+    let t = bit_and (bit_xor x (x / 2 ^ k)) m in
+    bit_xor (bit_xor x t) (t * 2 ^ k % 2 ^ 64)
 
 -- swaps of bits 7, 14 and 28 apart make columns of rows
 unfoldable pub turned : (ℕ → ℕ) → ℕ → ℕ

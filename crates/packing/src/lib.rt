@@ -1,10 +1,10 @@
 // From flag bytes, one a tick, to planes: a word of A, one of P, one of N, one of M.
 #![tactic(auto)]
 
-ghost use Rattle.std.specs.Prelude.{◌+◌, ◌≤◌, ◌≡◌, length};
-ghost use Rattle.packing.specs.Packing.{Four, Eight, Nibbles, Turn, Low, High, Packed, PackedPart};
+ghost use Rattle.std.specs.Prelude.{◌+◌, ◌<◌, ◌≤◌, ◌≡◌, length};
+ghost use Rattle.packing.specs.Packing.{Eight, Nibbles, Turn, Inside, Low, High, swapped, Packed, PackedPart};
 
-#[derive(Clone, Copy)]
+#[derive(Clone, Copy, PartialEq, Default)]
 pub struct Planes {
     pub a: u64,
     pub p: u64,
@@ -12,81 +12,49 @@ pub struct Planes {
     pub m: u64,
 }
 
-fn wide(x: u8) -> u64
-    ensures { result ≡ x }
-{
-    x as u64
-}
-
-// The bits of the four bytes from o on, lowest first.
-fn four(flags: &[u8], o: usize) -> u64
-    requires { o + 4 ≤ length flags.now }
-    ensures { Four flags.now o result }
-{
-    wide(flags[o])
-        | (wide(flags[o + 1]) << 8)
-        | (wide(flags[o + 2]) << 16)
-        | (wide(flags[o + 3]) << 24)
-}
-
 // The bits of the eight bytes from o on, lowest first.
 pub fn eight(flags: &[u8], o: usize) -> u64
     requires { o + 8 ≤ length flags.now }
     ensures { Eight flags.now o result }
 {
-    four(flags, o) | (four(flags, o + 4) << 32)
+    u64::from_le_bytes([
+        flags[o],
+        flags[o + 1],
+        flags[o + 2],
+        flags[o + 3],
+        flags[o + 4],
+        flags[o + 5],
+        flags[o + 6],
+        flags[o + 7],
+    ])
 }
 
-// x with its high nibbles replaced by the low ones of y.
-fn low4(x: u64, y: u64) -> u64
-    ensures { Low 4 0x0f0f0f0f0f0f0f0f x y result }
+// x and y once the bits of x that stand s above those that the mask marks have changed places with the bits of y that it marks.
+fn exchange(x: u64, y: u64, s: u32, mask: u64) -> (u64, u64)
+    requires { Inside s mask }
+    ensures low { Low s mask x y result.0 }
+    ensures high { High s mask x y result.1 }
 {
-    let t = ((x >> 4) ^ y) & 0x0f0f_0f0f_0f0f_0f0f;
-    x ^ (t << 4)
+    let t = ((x >> s) ^ y) & mask;
+    (x ^ (t << s), y ^ t)
 }
 
-// The low pairs of bits of x and y, those of x below those of y.
-fn low2(x: u64, y: u64) -> u64
-    ensures { Low 2 0x3333333333333333 x y result }
+// x once the bits that the mask marks have changed places with those that stand k above.
+fn swap(x: u64, k: u32, mask: u64) -> u64
+    requires { k < 64 }
+    ensures { result ≡ swapped k mask x }
 {
-    let t = ((x >> 2) ^ y) & 0x3333_3333_3333_3333;
-    x ^ (t << 2)
-}
-
-// The high pairs of bits of x and y.
-fn high2(x: u64, y: u64) -> u64
-    ensures { High 2 0x3333333333333333 x y result }
-{
-    let t = ((x >> 2) ^ y) & 0x3333_3333_3333_3333;
-    y ^ t
-}
-
-// The even bits of x and y, those of x below those of y.
-fn low1(x: u64, y: u64) -> u64
-    ensures { Low 1 0x5555555555555555 x y result }
-{
-    let t = ((x >> 1) ^ y) & 0x5555_5555_5555_5555;
-    x ^ (t << 1)
-}
-
-// The odd bits of x and y.
-fn high1(x: u64, y: u64) -> u64
-    ensures { High 1 0x5555555555555555 x y result }
-{
-    let t = ((x >> 1) ^ y) & 0x5555_5555_5555_5555;
-    y ^ t
+    let t = (x ^ (x >> k)) & mask;
+    x ^ t ^ (t << k)
 }
 
 // Eight rows of eight bits, each row a byte, become columns.
 fn turn(x: u64) -> u64
     ensures { Turn x result }
 {
-    let t = (x ^ (x >> 7)) & 0x00aa_00aa_00aa_00aa;
-    let y = x ^ t ^ (t << 7);
-    let u = (y ^ (y >> 14)) & 0x0000_cccc_0000_cccc;
-    let z = y ^ u ^ (u << 14);
-    let v = (z ^ (z >> 28)) & 0x0000_0000_f0f0_f0f0;
-    z ^ v ^ (v << 28)
+    let y = swap(x, 7, 0x00aa_00aa_00aa_00aa);
+    let z = swap(y, 14, 0x0000_cccc_0000_cccc);
+    swap(z, 28, 0x0000_0000_f0f0_f0f0)
 }
 
 // The flags of the eight ticks from o on, and in the high nibbles those of the ticks 32 later.
@@ -96,7 +64,7 @@ fn nibbles(flags: &[u8], o: usize) -> u64
 {
     let x = eight(flags, o);
     let y = eight(flags, o + 32);
-    low4(x, y)
+    exchange(x, y, 4, 0x0f0f_0f0f_0f0f_0f0f).0
 }
 
 // The planes of the 64 ticks from o on.
@@ -108,23 +76,15 @@ pub fn pack(flags: &[u8], o: usize) -> Planes
     let y1 = nibbles(flags, o + 8);
     let y2 = nibbles(flags, o + 16);
     let y3 = nibbles(flags, o + 24);
-    let z0 = low2(y0, y2);
-    let z2 = high2(y0, y2);
-    let z1 = low2(y1, y3);
-    let z3 = high2(y1, y3);
-    let x0 = low1(z0, z1);
-    let x1 = high1(z0, z1);
-    let x2 = low1(z2, z3);
-    let x3 = high1(z2, z3);
-    let a = turn(x0);
-    let p = turn(x1);
-    let n = turn(x2);
-    let m = turn(x3);
+    let (z0, z2) = exchange(y0, y2, 2, 0x3333_3333_3333_3333);
+    let (z1, z3) = exchange(y1, y3, 2, 0x3333_3333_3333_3333);
+    let (x0, x1) = exchange(z0, z1, 1, 0x5555_5555_5555_5555);
+    let (x2, x3) = exchange(z2, z3, 1, 0x5555_5555_5555_5555);
     Planes {
-        a: a,
-        p: p,
-        n: n,
-        m: m,
+        a: turn(x0),
+        p: turn(x1),
+        n: turn(x2),
+        m: turn(x3),
     }
 }
 

@@ -7,7 +7,7 @@ use mathlib.Core.Bool.{Bool, false, not, ◌&&◌, ◌||◌}
 use mathlib.Core.Logic.{⊎_elim}
 use lib.Pow.{pow_pos, shr_le, shr-shr, ones_sub-lt}
 use lib.Bits.{bit_and, bit_or, and_lt, or_lt}
-use Rattle.plane.specs.Words.{bit, Holds}
+use Rattle.plane.specs.Words.{bit, Holds, Slid}
 use Rattle.plane.proofs.Cases.{le_or_lt, or_false}
 use Rattle.plane.proofs.BitLaws.{bit-and, bit-or, bit-shr, bit-above, left, left-high, left-low, bit_not, zero_bit}
 
@@ -51,7 +51,7 @@ holds-behind {F} {x} k b c e p = record {
 }
 
 -- the word that starts k ticks before `now`, of it and the word before
-abbrev pub back : ℕ → ℕ → ℕ → ℕ
+abbrev back : ℕ → ℕ → ℕ → ℕ
 back k now before = bit_or (left k now) (before / 2 ^ (64 - k))
 
 module _ {F : ℕ → Bool} {b before : ℕ} (now k : ℕ) (l : k ≤ 64) (p : (m : ℕ) → k + m < 64 → bit now m ≡ F (b + 64 + m)) (q : Holds F b before) where
@@ -80,8 +80,8 @@ module _ {F : ℕ → Bool} {b before : ℕ} (now k : ℕ) (l : k ≤ 64) (p : (
   }
 
 -- of two words in a row, the word that starts k before the second
-pub holds-back : {F : ℕ → Bool} {b now before : ℕ} (k : ℕ) → k ≤ 64 → Holds F (b + 64) now → Holds F b before → Holds F (b + (64 - k)) (back k now before)
-holds-back {now = now} k l p q = holds-part now k l (λ m h. p.at m (omega arith)) q
+pub holds-back : {F : ℕ → Bool} {b now before x : ℕ} (k : ℕ) → k ≤ 64 → Slid before now (64 - k) x → Holds F (b + 64) now → Holds F b before → Holds F (b + (64 - k)) x
+holds-back {F} {b} k l s p q = s.holds F b q (λ m h. p.at m (omega arith))
 
 -- r new ticks, 1 to 64, at the low end of `now`, by the shifts that the code has
 pub holds-slide : {F : ℕ → Bool} {b before : ℕ} (now r : ℕ) → 0 < r → r ≤ 64 → ((m : ℕ) → m < r → bit now m ≡ F (b + 64 + m)) → Holds F b before
@@ -99,11 +99,11 @@ holds-none {F} {b} f = record { below = pow_pos 64; at = λ i h. zero_bit i ∙ 
 
 -- the plane d ticks ahead, from two words in a row: as the word that starts k before `now`, and as `now`
 module _ {F : ℕ → Bool} {b now before : ℕ} (p : Holds F (b + 64) now) (q : Holds F b before) where
-  pub place : (d k : ℕ) → d + k ≤ 64 → Holds (λ t. F (t + d)) (b + (64 - k - d)) (back k now before)
-  place d k l =
+  pub place : {x : ℕ} (d k : ℕ) → d + k ≤ 64 → Slid before now (64 - k) x → Holds (λ t. F (t + d)) (b + (64 - k - d)) x
+  place {x} d k l s =
       holds_ahead d (b + (64 - k - d))
       (let e : b + (64 - k) ≡ b + (64 - k - d) + d = omega arith in
-      subst (λ (n : ℕ). Holds F n (back k now before)) e (holds-back k (omega arith) p q))
+      subst (λ (n : ℕ). Holds F n x) e (holds-back k (omega arith) s p q))
 
   pub newest : (d : ℕ) → d ≤ 64 → Holds (λ t. F (t + d)) (b + (64 - d)) now
   newest d l = holds_ahead d (b + (64 - d)) (let e : b + 64 ≡ b + (64 - d) + d = omega arith in subst (λ (n : ℕ). Holds F n now) e p)

@@ -2,8 +2,31 @@
 // Moving a word on, and going through its set bits.
 #![tactic(auto)]
 
-ghost use Rattle.std.specs.Prelude.{◌<◌, ◌≤◌, ◌≡◌};
+ghost use Rattle.std.specs.Prelude.{◌-◌, ◌<◌, ◌≤◌, ◌≡◌};
 ghost use Rattle.plane.specs.Words.{bit, Slid, Lowest, WithoutLowest};
+
+// A word of 64 ticks, with the word of the 64 ticks before them.
+#[derive(Clone, Copy)]
+pub struct Stretch {
+    pub word: u64,
+    pub before: u64,
+}
+
+impl Stretch {
+    pub fn new(before: u64, word: u64) -> Stretch
+        ensures { result ≡ record { word = word; before = before } }
+    {
+        Stretch { word, before }
+    }
+
+    // The word of the 64 ticks that start k before those of `word`.
+    pub fn back(self, k: u32) -> u64
+        requires { k < 64 }
+        ensures { Slid self.before self.word (64 - k) result }
+    {
+        slide(self.before, self.word, 64 - k)
+    }
+}
 
 // The word r ticks on, 1 to 64: the r low bits of `now` come after the 64 ticks of `before`, whose first r drop out.
 pub fn slide(before: u64, now: u64, r: u32) -> u64

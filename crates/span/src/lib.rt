@@ -26,22 +26,15 @@ pub struct Span {
 pub fn span_of(f: Front) -> Span
     ensures { SpanPost f result }
 {
-    let u = due(f.e2, f.e3);
-    let u168 = at168(f.e, f.e1);
-    let u167 = at167(f.e, f.e1);
-    let main = slide(f.m3, f.m2, 15);
-    let main168 = slide(f.m1, f.m, 55);
-    let main167 = slide(f.m1, f.m, 54);
-    let main169 = slide(f.m1, f.m, 56);
     Span {
-        due: u,
-        at168: u168,
-        at167: u167,
+        due: due(f.e2, f.e3),
+        at168: at168(f.e, f.e1),
+        at167: at167(f.e, f.e1),
         at169: f.e,
-        main,
-        main168,
-        main167,
-        main169,
+        main: slide(f.m3, f.m2, 15),
+        main168: slide(f.m1, f.m, 55),
+        main167: slide(f.m1, f.m, 54),
+        main169: slide(f.m1, f.m, 56),
     }
 }
 

@@ -1,6 +1,8 @@
--- `at167` answers the word that starts two ticks before e.
-use Rattle.brackets.proofs.BracketWords.{at167-is}
+-- `at167` answers the word that starts 62 ticks after e1.
+use native.Mathlib.Omega.{arith}
+use mathlib.Core.Path.{refl}
+use Rattle.brackets.proofs.BracketWords.{behind}
 use Rattle.brackets.proofs.at167.Goals as goal
 
 pub returns : goal.returns
-returns c = record { holds = λ E b h₁ h. at167-is b h₁ h }
+returns c = record { holds = λ E b. behind b 167 62 refl (omega arith) c.slide.ensures }

@@ -1,7 +1,6 @@
--- `due` answers the word that starts 41 ticks before e2.
+-- `due` answers the word that starts 23 ticks after e3.
 use native.Mathlib.Omega.{arith}
-use Rattle.plane.proofs.PlaneLaws.{holds-back}
 use Rattle.brackets.proofs.due.Goals as goal
 
 pub returns : goal.returns
-returns c = record { holds = λ E b h₃ h₂. holds-back 41 (omega arith) h₂ h₃ }
+returns c = record { holds = λ E b h₃ h₂. c.slide.ensures.holds E b h₃ (λ m l. h₂.at m (omega arith)) }

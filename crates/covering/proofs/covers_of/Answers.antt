@@ -1,12 +1,8 @@
--- `covering::covers_of` meets its contract.
+-- `covers_of` answers the ticks that the places cover.
 use Rattle.rules.specs.Replies.{covers}
-use Rattle.covering.proofs.Starting.{all_tell}
+use Rattle.std.proofs.Common.{rules}
+use Rattle.covering.proofs.Starting.{all_tell, cover_tells}
 use Rattle.covering.proofs.covers_of.Goals as goal
 
 pub returns : goal.returns
-returns c =
-    let coverof3 = c.cover_of-3 in
-    let coverof2 = c.cover_of-2 in
-    let coverof = c.cover_of in
-    let a = c.args in
-    all_tell covers a.t.0 coverof.result coverof2.result coverof3.result c.cover_of-4.result a.p coverof.ensures coverof2.ensures coverof3.ensures c.cover_of-4.ensures
+returns c = all_tell covers _ c.args.t.0 (λ r x e. cover_tells c.args.t.0 x r (search rules)) _ c.args.p c.words_of.ensures

@@ -1,12 +1,8 @@
--- `covering::risks_of` meets its contract.
+-- `risks_of` answers the ticks at which a bracket removes the places' replies.
 use Rattle.rules.specs.Replies.{is_phantom}
-use Rattle.covering.proofs.Starting.{all_tell}
+use Rattle.std.proofs.Common.{rules}
+use Rattle.covering.proofs.Starting.{all_tell, risk_tells}
 use Rattle.covering.proofs.risks_of.Goals as goal
 
 pub returns : goal.returns
-returns c =
-    let riskof3 = c.risk_of-3 in
-    let riskof2 = c.risk_of-2 in
-    let riskof = c.risk_of in
-    let a = c.args in
-    all_tell is_phantom a.t.0 riskof.result riskof2.result riskof3.result c.risk_of-4.result a.p riskof.ensures riskof2.ensures riskof3.ensures c.risk_of-4.ensures
+returns c = all_tell is_phantom _ c.args.t.0 (λ r x e. risk_tells c.args.t.0 x r (search rules)) _ c.args.p c.words_of.ensures

@@ -3,4 +3,4 @@ use Rattle.edges.proofs.ChainWords.{chain-is}
 use Rattle.edges.proofs.chain.Goals as goal
 
 pub returns : goal.returns
-returns c = record { holds = λ F b. chain-is F b c.args.lead c.args.lead0 c.args.calm c.args.calm0 c.args.chain0 }
+returns c = chain-is c.back.ensures c.back-2.ensures c.back-3.ensures c.back-4.ensures

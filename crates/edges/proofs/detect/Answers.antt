@@ -5,6 +5,8 @@ use Rattle.edges.proofs.detect.Goals as goal
 pub returns : goal.returns
 returns c =
     record {
-      holds = detected c.args.past c.leads-lead.ensures c.trails-trail.ensures
-          c.chain-links.ensures c.edges-edge.ensures;
+      holds = detected c.args.past
+          c.new-a.ensures c.new-p.ensures c.new-n.ensures c.leads-lead.ensures c.trails-trail.ensures
+          c.new-leads.ensures c.new-calms.ensures c.chain-links.ensures
+          c.new-chains.ensures c.edges-edge.ensures;
     }

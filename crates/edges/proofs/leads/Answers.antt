@@ -3,4 +3,4 @@ use Rattle.edges.proofs.Shapes.{leads_are}
 use Rattle.edges.proofs.leads.Goals as goal
 
 pub returns : goal.returns
-returns c = record { holds = λ F b. leads_are F b c.args.a c.args.p c.args.a0 c.args.p0 }
+returns c = leads_are c.back.ensures c.back-2.ensures c.back-3.ensures c.back-4.ensures c.back-5.ensures

@@ -1,6 +1,6 @@
 -- `long` answers the ticks in a long run.
-use Rattle.edges.proofs.EdgeWords.{drawn_out_hold}
+use Rattle.edges.proofs.EdgeWords.{drawn_out_are}
 use Rattle.edges.proofs.long.Goals as goal
 
 pub returns : goal.returns
-returns c = record { holds = λ F b. drawn_out_hold F b c.args.calm c.args.calm0 c.args.chain c.args.chain0 }
+returns c = drawn_out_are c.back.ensures c.back-2.ensures c.back-3.ensures c.back-4.ensures c.back-5.ensures c.back-6.ensures

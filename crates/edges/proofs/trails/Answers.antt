@@ -3,4 +3,4 @@ use Rattle.edges.proofs.Shapes.{falls_are}
 use Rattle.edges.proofs.trails.Goals as goal
 
 pub returns : goal.returns
-returns c = record { holds = λ F b. falls_are F b c.args.a c.args.p c.args.n c.args.a0 c.args.p0 c.args.n0 }
+returns c = falls_are c.back.ensures c.back-2.ensures c.back-3.ensures c.back-4.ensures c.back-5.ensures
