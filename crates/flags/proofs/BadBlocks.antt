@@ -16,7 +16,7 @@ use Rattle.rules.proofs.Truth.{or_left, or_right, impossible}
 use Rattle.plane.specs.Words.{bit}
 use Rattle.packing.specs.Packing.{bytes, Eight}
 use Rattle.flags.specs.Flags.{some, Gathered, GatheredBy, Paired}
-use Rattle.plane.proofs.Cases.{and_false, up_to, below, is_true, never}
+use Rattle.plane.proofs.Cases.{and_false, or_false, up_to, below, is_true, never}
 use Rattle.plane.proofs.BitLaws.{bit-and, bit-or, bit-shr, bit-above, zero_bit}
 use Rattle.plane.proofs.LowestBit.{no_bits}
 use Rattle.flags.proofs.BadBytes.{rest}

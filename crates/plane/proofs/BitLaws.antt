@@ -5,7 +5,7 @@ use native.Mathlib.Nat.{mod-lt, div-eq_of_lt, lt_of_lt_of_le, pow-suc, mul_assoc
 use native.Mathlib.Omega.{arith}
 use native.Mathlib.Numerals.{add-one}
 use mathlib.Core.Path.{◌≡◌, refl, sym, ap, ◌∙◌, subst}
-use mathlib.Core.Bool.{Bool, true, false, not, ◌&&◌, ◌||◌, cond}
+use mathlib.Core.Bool.{Bool, true, false, not, ◌&&◌, ◌||◌}
 use lib.Arith.{digits_mod}
 use lib.Dec.{eqb}
 use lib.Pow.{pow_mono, pow-add, shr-shr, shl-shr, field, mod-mod-pow, ones_split, high, ones_lt}
@@ -105,21 +105,6 @@ left-low n x i h l = bit-mod (x * 2 ^ n) 64 i h ∙ bit-shl-low x n i l
 pub zero_bit : (i : ℕ) → bit 0 i ≡ false
 unfolding bit
 zero_bit i = rw zero-div refl
-
--- ---- a bit as a number
-
-two_way : (n : ℕ) → n < 2 → n ≡ cond (eqb n 1) 1 0
-two_way zero h = refl
-two_way (suc zero) h = refl
-two_way (suc (suc n)) h = absurd (omega arith)
-
-pub digit_law : (x i : ℕ) → x / 2 ^ i % 2 ≡ cond (bit x i) 1 0
-unfolding bit
-digit_law x i = two_way (x / 2 ^ i % 2) (omega arith)
-
-pub marked_by : (b : Bool) (d : ℕ) → d ≡ cond b 1 0 → eqb d 1 ≡ b
-marked_by true d e = rw e
-marked_by false d e = rw e
 
 -- ---- complement
 
