@@ -33,6 +33,7 @@ pub enum Meaning {
 }
 
 // The identity that a code gives; none where one of its twelve pulses has confidence 0.
+// Stays: code and confidence are two numbers, as C hands them on (identity_number); so too in altitude and meaning_of.
 #[tactic(auto, using(crate::proofs::PulseLaws::masks), unfolding(crate::specs::Identity::identity))]
 pub fn identity(code: u16, confidence: u16) -> Option<Squawk>
     ensures { result ≡ identity code confidence }
