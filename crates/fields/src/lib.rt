@@ -10,6 +10,7 @@ ghost use Rattle.rules.specs.Buffers.{over-at};
 use rules::{Estimate, Marks, Range, Tick};
 
 // Only here a tick becomes a range, of two bytes.
+// Stays: a function and no From, since a tick from 32,768 on loses what its range has above two bytes.
 pub fn range_of(t: Tick) -> Range
     ensures { result.0 ≡ (range_of t).0 % 65536 }
 {

@@ -34,6 +34,7 @@ fn fresh(settled: u16, p: u32) -> u16
     ((32767 - settled % 32768) >> p) % 2
 }
 
+// Stays: numbers for the kind and for yes or no, by which `choose` goes without a branch (docs/DECISIONS.md, "No branch on what an edge settles").
 fn kind_of(e: Estimate) -> u16
     ensures { result ≡ kind_of e }
 {
