@@ -63,6 +63,7 @@ fn gather(input: &[u8], from: usize, flags: &mut [u8], values: &mut [u8]) -> Gat
 {
     let mut i = from;
     let mut n: usize = 0;
+    // Stays: a turn goes on by the line that it finds, so there is no range or chunk to go through; a `for` would count turns that nothing needs.
     while n <= 4032 {
         let e = line_end(input, i);
         let End::At(end) = e else {
@@ -152,6 +153,7 @@ fn take_lines(
     let mut i = from;
     let mut a: usize = 0;
     let mut place = at;
+    // Stays: a turn goes on by the line that it finds, and its samples by a quarter of that; a `for` would count turns that nothing needs.
     while i < to {
         let e = line_end(input, i);
         let End::At(end) = e else {

@@ -14,7 +14,7 @@ ghost use Rattle.piecewise.specs.Post.{count_in_lem, Calls, ByCallsPost};
 use calls::Answer;
 use rules::{Opening, RECORD, TOTALS, Totals};
 use sweep::{close, open, take};
-use takes::{Reached, least};
+use takes::Reached;
 use whole_refusals::whole_refusal;
 
 // How many replies were handed out in all, or the number of a refusal; and the totals.
@@ -60,14 +60,13 @@ fn take_each(opening: Opening, flags: &[u8], values: &[u8], piece: usize, out: &
     let o = open(opening);
     let mut p = o.processor;
     let mut at: usize = 0;
-    let mut i: usize = 0;
-    while i < n {
-        let end = i + least(piece, n - i);
+    for k in 0..n.div_ceil(piece) {
+        let i = k * piece;
+        let end = i + piece.min(n - i);
         let t = take(p, &flags[i..end], &values[i..end], &mut out[at..]);
         let answer = t.answer;
         at = at + RECORD * count_of(answer);
         p = t.processor;
-        i = end;
     }
     Reached { processor: p, at }
 }

@@ -9,4 +9,4 @@ returns-in-Refused c =
 pub returns-in-Accepted : goal.returns-in-Accepted
 returns-in-Accepted c =
     let a = c.args in
-    closed-accepted a.p a.at a.out.now c.requires.0 _ _ c.close_open-c.ensures a.totals.now _ c.put_totals.ensures _ _ c.in-Accepted.is c.least.ensures
+    closed-accepted a.p a.at a.out.now c.requires.0 _ _ c.close_open-c.ensures a.totals.now _ c.put_totals.ensures _ _ c.in-Accepted.is c.min.ensures
