@@ -1,6 +1,6 @@
 -- The pieces of a trace that nothing turns down: none of their takes is refused, and neither is the close.
 use Rattle.std.specs.Result.{result_unwrap_or}
-use Prim.Native.Nat.{ℕ, ◌+◌, ◌-◌, ◌*◌, ◌/◌, ◌≤◌, min}
+use Prim.Native.Nat.{ℕ, ◌+◌, ◌-◌, ◌*◌, ◌/◌, ◌≤◌, ◌<◌, min}
 use native.Mathlib.Omega.{arith}
 use mathlib.Core.Path.{◌≡◌, refl, sym, ap, ◌∙◌, subst}
 use mathlib.Core.Bool.{true, false}
@@ -27,6 +27,8 @@ use Rattle.calls.specs.Post.{open_of, take_answer_at, close_answer_at, TakePost,
 use Rattle.whole_refusals.specs.Whole.{whole_answer}
 use Rattle.takes.specs.Post.{part}
 use Rattle.takes.proofs.Taking.{all_take, all_drop, up_to, between, up_more, up_all}
+use Rattle.std.specs.Int.{div_ceil}
+use Rattle.takes.proofs.Turns.{begin, begin_here, begin_next}
 use Rattle.whole.proofs.Answering.{Clear, clear}
 use Rattle.piecewise.specs.declared.Swept.{Swept}
 use Rattle.piecewise.specs.Post.{swept_as, buffer_as, ByCallsPost, Calls}
@@ -88,6 +90,14 @@ module _ (ω : Opening) (T : Trace) (piece : ℕ) (b₀ : List ℕ) (ok : whole_
         reach = omega arith;
         size = refl;
       }
+
+  -- where piece k begins, and where it ends
+  module _ (p : Processor) (at k : ℕ) (b : List ℕ) (more : k < div_ceil (length T.flags) piece) where
+    pub pieces_here : Pieces ω T b₀ p at (begin (length T.flags) piece k) b → Pieces ω T b₀ p at (k * piece) b
+    pieces_here h = subst (λ (i : ℕ). Pieces ω T b₀ p at i b) (begin_here (length T.flags) piece some k more) h
+
+    pub pieces_there : (end : ℕ) → end ≡ k * piece + min piece (length T.flags - k * piece) → Pieces ω T b₀ p at end b → Pieces ω T b₀ p at (begin (length T.flags) piece (k + 1)) b
+    pieces_there end e h = subst (λ (i : ℕ). Pieces ω T b₀ p at i b) (begin_next (length T.flags) piece some k end more e) h
 
   module _ (p : Processor) (at i : ℕ) (b : List ℕ) (h : Pieces ω T b₀ p at i b) where
     size_i : length (take i T.flags) ≡ i

@@ -13,7 +13,7 @@ ghost use Rattle.piecewise.specs.Post.{Calls, ByCallsPost};
 use calls::Answer;
 use rules::{Opening, RECORD, Refusal, TOTALS, Totals};
 use sweep::{close, open, take};
-use takes::{Reached, least};
+use takes::Reached;
 use whole_refusals::whole_refusal;
 
 // How many replies were handed out in all, or the refusal; and the totals.
@@ -49,13 +49,12 @@ fn take_each(opening: Opening, flags: &[u8], values: &[u8], piece: usize, out: &
     let o = open(opening);
     let mut p = o.processor;
     let mut at: usize = 0;
-    let mut i: usize = 0;
-    while i < n {
-        let end = i + least(piece, n - i);
+    for k in 0..n.div_ceil(piece) {
+        let i = k * piece;
+        let end = i + piece.min(n - i);
         let t = take(p, &flags[i..end], &values[i..end], &mut out[at..]);
         at = at + RECORD * t.answer.unwrap_or(0);
         p = t.processor;
-        i = end;
     }
     Reached { processor: p, at }
 }

@@ -3,3 +3,4 @@ pub mod Pieces
 pub mod Taking
 pub mod Keeping
 pub mod Resting
+pub mod Turns

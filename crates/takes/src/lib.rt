@@ -21,21 +21,12 @@ pub struct Reached {
     pub at: usize,
 }
 
-pub fn least(n: usize, most: usize) -> usize
-    ensures { result ≡ min n most }
-{
-    if n < most {
-        return n;
-    }
-    most
-}
-
 // The place in a buffer of n bytes behind the records up to `at` and those that `more` bytes hold.
 fn behind(at: usize, more: usize, n: usize) -> usize
     requires { at ≤ n }
     ensures { result ≡ at + record_size * min (more / record_size) ((n - at) / record_size) }
 {
-    at + RECORD * least(more / RECORD, (n - at) / RECORD)
+    at + RECORD * (more / RECORD).min((n - at) / RECORD)
 }
 
 // The first of the four decoders.
@@ -77,13 +68,12 @@ pub fn take_all(p: Processor, flags: &[u8], values: &[u8], piece: usize, out: &m
     let mut recent = p.recent;
     let mut kept: usize = 0;
     let mut at: usize = 0;
-    let mut i: usize = 0;
-    while i < n {
-        let end = i + least(piece, n - i);
+    for k in 0..n.div_ceil(piece) {
+        let i = k * piece;
+        let end = i + piece.min(n - i);
         let front = y.front;
         let first = first_place(y);
         if is_quiet(front, first, i as u32, &flags[i..end]) {
-            i = end;
             continue;
         }
         keep_part(&mut recent, values, kept, i);
@@ -99,7 +89,6 @@ pub fn take_all(p: Processor, flags: &[u8], values: &[u8], piece: usize, out: &m
         kept = end;
         at = behind(at, y.at, out.len());
         y.at = 0;
-        i = end;
     }
     keep_part(&mut recent, values, kept, n);
     arrived(p, y, recent, n as u32, at)

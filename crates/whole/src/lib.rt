@@ -15,7 +15,7 @@ use frames::totals_bytes;
 use processor::Processor;
 use rules::{MOST_LEFT, Opening, RECORD, Refusal, TOTALS, Totals};
 use sweep::{close_open, open};
-use takes::{least, take_all};
+use takes::take_all;
 use whole_refusals::whole_refusal;
 
 // The close, whose records land behind those of the pieces, and the totals. Answers how many records there are in all.
@@ -27,7 +27,7 @@ fn close_at(p: Processor, out: &mut [u8], at: usize, totals: &mut [u8]) -> usize
     put_totals(c.totals, totals);
     match c.answer {
         Err(_) => at / RECORD,
-        Ok(count) => at / RECORD + least(count, MOST_LEFT),
+        Ok(count) => at / RECORD + count.min(MOST_LEFT),
     }
 }
 
@@ -36,12 +36,7 @@ fn put_totals(t: Totals, totals: &mut [u8])
     requires { totals_size ≤ length totals.old }
     ensures { totals.new ≡ over (totals_bytes_lem t) totals.old }
 {
-    let bytes = totals_bytes(t);
-    let mut i: usize = 0;
-    while i < TOTALS {
-        totals[i] = bytes[i];
-        i += 1;
-    }
+    totals[..TOTALS].copy_from_slice(&totals_bytes(t));
 }
 
 // The processor of an opening.

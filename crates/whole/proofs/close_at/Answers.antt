@@ -9,4 +9,4 @@ returns-in-Err c =
 pub returns-in-Ok : goal.returns-in-Ok
 returns-in-Ok c =
     let a = c.args in
-    closed-accepted a.p a.at a.out.now c.requires.0 _ _ c.close_open-c.ensures a.totals.now _ c.put_totals.ensures _ _ c.in-Ok.is c.least.ensures
+    closed-accepted a.p a.at a.out.now c.requires.0 _ _ c.close_open-c.ensures a.totals.now _ c.put_totals.ensures _ _ c.in-Ok.is c.min.ensures
