@@ -2,7 +2,7 @@
 use Prim.Native.Nat.{ℕ, zero, suc, ◌+◌, ◌-◌, ◌≤◌, ◌<◌}
 use native.Mathlib.Numerals.{add-one}
 use native.Mathlib.Omega.{arith}
-use mathlib.Core.Path.{◌≡◌, refl, sym, ap, ◌∙◌, subst}
+use mathlib.Core.Path.{◌≡◌, refl, sym, ap, ◌∙◌}
 use mathlib.Core.Logic.{◌⊎◌, inl, inr}
 use mathlib.Core.Bool.{Bool, true, false, ◌&&◌, ◌||◌, not, cond, or-false, or_assoc, and-false}
 use mathlib.Core.List.{List, [], ◌∷◌, ◌++◌}
@@ -12,8 +12,8 @@ use lib.Seq.{take-suc, get_or-take, get_or-drop}
 use borrow.Author.Tests.{ltb-true, ltb-false, leb-false, le-leb, lt-leb, eqb-true, eqb-false}
 use Rattle.rules.specs.Lists.{any, All}
 use Rattle.rules.proofs.Truth.{impossible, or_left, or_right, or-second}
-use Rattle.std.specs.Prelude.{Option, Some, None}
-use Rattle.ends.specs.Ends.{NoNewline, Newline, newline_in, plain32, passed_by, Passed, LineEnd, LinePast, EndPost}
+use Rattle.std.specs.Prelude.{Some, None}
+use Rattle.ends.specs.Ends.{NoNewline, Newline, newline_in, plain32, passed_by, Passed, EndPost}
 
 -- ---- bytes without a newline
 
@@ -197,14 +197,6 @@ module _ (input : List ℕ) (from : ℕ) where
   pub looking_past : (i left : ℕ) → length input ≤ i → Looking input from i left → EndPost input from None
   looking_past i left l h =
       record { short = omega (arith, h.sum, h.some); before = record { none = λ k a b e. h.seen.none k a (omega arith) e } }
-
--- ---- where a line ends, taken apart
-
-pub end-at : (input : List ℕ) (from : ℕ) (r : Option ℕ) (to : ℕ) → r ≡ Some to → EndPost input from r → LineEnd input from to
-end-at input from r to e h = subst (EndPost input from) e h
-
-pub end-past : (input : List ℕ) (from : ℕ) (r : Option ℕ) → r ≡ None → EndPost input from r → LinePast input from
-end-past input from r e h = subst (EndPost input from) e h
 
 -- ---- bytes as a list
 
