@@ -59,6 +59,7 @@ fn gather(input: &[u8], from: usize, flags: &mut [u8], values: &mut [u8]) -> Gat
 {
     let mut i = from;
     let mut n: usize = 0;
+    // Stays: a turn goes on by the line that it finds, so there is no range or chunk to go through; a `for` would count turns that nothing needs.
     while n <= 4032 {
         let Some(end) = line_end(input, i) else {
             return Gathering { end: i, n };
@@ -137,6 +138,7 @@ fn take_lines(
         at,
     };
     let mut a: usize = 0;
+    // Stays: a turn goes on by the line that it finds, and its samples by a quarter of that; a `for` would count turns that nothing needs.
     while done.from < to {
         let Some(end) = line_end(input, done.from) else {
             return done;
