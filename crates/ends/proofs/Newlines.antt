@@ -1,7 +1,7 @@
 -- Where a line ends: the bytes looked at so far have no newline.
 use Prim.Native.Nat.{ℕ, zero, suc, ◌+◌, ◌-◌, ◌≤◌, ◌<◌}
 use native.Mathlib.Omega.{arith}
-use mathlib.Core.Path.{◌≡◌, refl, sym, ap, ◌∙◌, subst}
+use mathlib.Core.Path.{◌≡◌, refl, sym, ap, ◌∙◌}
 use mathlib.Core.Logic.{◌⊎◌, inl, inr}
 use mathlib.Core.Bool.{Bool, true, false, ◌&&◌, ◌||◌, not, cond, and-false}
 use mathlib.Core.List.{List, [], ◌∷◌}
@@ -12,8 +12,8 @@ use borrow.Author.Tests.{ltb-true, ltb-false, leb-false, le-leb, lt-leb, eqb-tru
 use Rattle.std.specs.List.{list_any}
 use Rattle.rules.specs.Lists.{any, All}
 use Rattle.rules.proofs.Truth.{impossible, or_left, or_right, or-second}
-use Rattle.std.specs.Prelude.{Option, Some, None}
-use Rattle.ends.specs.Ends.{NoNewline, Newline, newline_in, plain32, passed_by, Passed, LineEnd, LinePast, EndPost}
+use Rattle.std.specs.Prelude.{Some, None}
+use Rattle.ends.specs.Ends.{NoNewline, Newline, newline_in, plain32, passed_by, Passed, EndPost}
 
 -- ---- bytes without a newline
 
@@ -172,14 +172,6 @@ module _ (input : List ℕ) (from : ℕ) where
 
   pub looking_past : (i : ℕ) → length input ≤ i → Looking input from i → EndPost input from None
   looking_past i l h = record { short = omega (arith, h.short); before = record { none = λ k a b e. h.seen.none k a (omega arith) e } }
-
--- ---- where a line ends, taken apart
-
-pub end-at : (input : List ℕ) (from : ℕ) (r : Option ℕ) (to : ℕ) → r ≡ Some to → EndPost input from r → LineEnd input from to
-end-at input from r to e h = subst (EndPost input from) e h
-
-pub end-past : (input : List ℕ) (from : ℕ) (r : Option ℕ) → r ≡ None → EndPost input from r → LinePast input from
-end-past input from r e h = subst (EndPost input from) e h
 
 -- ---- bytes as a list
 

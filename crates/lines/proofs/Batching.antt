@@ -1,9 +1,9 @@
 -- Lines of samples taken as one piece: the sweep takes the piece if and only if it takes the lines, and the replies are the same.
 use Prim.Native.Nat.{ℕ, zero, suc, ◌+◌, ◌-◌, ◌*◌, ◌/◌, ◌≤◌, ◌<◌}
+use Rattle.std.specs.Prelude.{Option, Some, None, IfSome}
 use Rattle.rules.specs.declared.Refusal.TheVariants.{PieceLength, NoRoom}
 use native.Mathlib.Omega.{arith}
 use mathlib.Core.Path.{◌≡◌, refl, sym, ap, ap₂, ◌∙◌, subst}
-use mathlib.Core.Logic.{◌⊎◌, inl, inr}
 use mathlib.Core.Bool.{Bool, true, false, not, ◌&&◌}
 use mathlib.Core.List.{List, [], ◌∷◌, ◌++◌, append_assoc, append-nil}
 use lib.Dec.{leb, ltb, eqb}
@@ -44,7 +44,7 @@ use Rattle.steps.specs.Post.{piece_of, count_in_lem}
 use Rattle.lines.specs.Survey.{lines_in, further, surveyed}
 use Rattle.lines.specs.Post.{Scans}
 use Rattle.lines.specs.Batches.{begins_samples, samples_in, AddPost, Takes, Gathered, Parts, GatherPost, batch_as, printed_as, TookAll, TakeAllPost, BatchPost, batch_room, batch_most}
-use Rattle.steps.proofs.Answering.{Wrote, write_inside, said-most, turned_down, given_back, was_accepted, went_on, replies-wrote}
+use Rattle.steps.proofs.Answering.{Wrote, write_inside, said-most, turned_down, was_accepted, went_on, replies-wrote}
 use Rattle.lines.proofs.Scanning.{good-take, part, survey-first, Scanning, scanning_start, scanning_batch}
 use Rattle.lines.proofs.Laying.{laid_none, parts_more, Left, left-start, Next, next-line}
 
@@ -310,38 +310,42 @@ module _ (input : List ℕ) (from : ℕ) (flags₀ values₀ : List ℕ) where
 
 -- ---- the piece
 
+some_not_none : {s : Batched} → Some s ≡ None → ⊥
+some_not_none e = let z : ◌≡◌ {A = ℕ} 0 1 = cc in omega arith
+
+same_some : {s t : Batched} → Some s ≡ Some t → s ≡ t
+same_some e = cc
+
 pub part-short : (l : List ℕ) (n m : ℕ) → n ≤ m → length (take n l) ≤ m
 part-short l zero m h = omega arith
 part-short [] (suc n) m h = omega arith
 part-short (x ∷ l) (suc n) zero h = absurd (omega arith)
 part-short (x ∷ l) (suc n) (suc m) h = omega (arith, part-short l n m (omega arith))
 
-module _ (p : Processor) (T : Trace) (from to at : ℕ) (b : List ℕ) (room : at + batch_most ≤ length b) (small : length T.flags ≤ 4096)
+module _ (p : Processor) (T : Trace) (to at : ℕ) (b : List ℕ) (room : at + batch_most ≤ length b) (small : length T.flags ≤ 4096)
     (h₀ h : List ℕ) (lent : length h₀ ≡ batch_room) (t : Answered) (post : TakePost p T h₀ t h) where
   few : (σ : Sweep) → record_size * length (fresh_of σ T) ≤ batch_room
   few none = omega arith
   few (running ω T₀) = omega (arith, fresh-most standard T₀ T)
 
-  pub all-refused : (k : Refusal) → t.answer ≡ Err k → TookAll p T from to at b (record { processor = t.processor; from = from; at = at }) b
+  pub all-refused : (k : Refusal) → t.answer ≡ Err k → TookAll p T to at b None b
   all-refused k e =
       record {
-        either = inl refl;
-        inside = omega arith;
-        result = λ σ m.
-            ap (λ (q : Processor). record { processor = q; from = from; at = at }) (given_back p at b T batch_room few h₀ h lent t post k e σ m)
-            ∙ ap (λ (v : Answer). batch_as v σ T p from to at) (sym (turned_down p at b T batch_room few h₀ h lent t post k e σ m));
+        place = tt;
+        nothing = λ z. refl;
+        result = λ σ m. ap (λ (v : Answer). batch_as v σ T to at) (sym (turned_down p at b T batch_room few h₀ h lent t post k e σ m));
         output = λ σ m. sym (over-at-nil at b) ∙ ap (λ (v : Answer). over-at (printed_as v σ T) at b) (sym (turned_down p at b T batch_room few h₀ h lent t post k e σ m));
       }
 
   pub all-accepted : (n : ℕ) → t.answer ≡ Ok n → (e : ℕ) (b' : List ℕ) → WritePost (first_lines n h) at b e b'
-      → TookAll p T from to at b (record { processor = t.processor; from = to; at = e }) b'
+      → TookAll p T to at b (Some (record { processor = t.processor; from = to; at = e })) b'
   all-accepted n q e b' w =
       record {
-        either = inr refl;
-        inside = write_inside (first_lines n h) at b e b' (omega arith) w;
+        place = (refl, write_inside (first_lines n h) at b e b' (omega arith) w);
+        nothing = λ z. absurd (some_not_none z);
         result = λ σ m.
-            ap₂ (λ (x : ℕ) (y : Processor). record { processor = y; from = to; at = x }) (put σ m).place (went_on p at b T batch_room few h₀ h lent t post n q σ m)
-            ∙ ap (λ (v : Answer). batch_as v σ T p from to at) (sym (accepts σ m));
+            ap₂ (λ (x : ℕ) (y : Processor). Some (record { processor = y; from = to; at = x })) (put σ m).place (went_on p at b T batch_room few h₀ h lent t post n q σ m)
+            ∙ ap (λ (v : Answer). batch_as v σ T to at) (sym (accepts σ m));
         output = λ σ m. (put σ m).buffer ∙ ap (λ (v : Answer). over-at (printed_as v σ T) at b) (sym (accepts σ m));
       }
     where
@@ -364,11 +368,11 @@ batch-nothing p input from at b =
     }
 
 module _ (p : Processor) (input : List ℕ) (from to at : ℕ) (b : List ℕ) (room : at + batch_most ≤ length b) (T : Trace) (g : Gathered input from to T)
-    (r : Batched) (b' : List ℕ) (post : TookAll p T from to at b r b') where
+    (r : Option Batched) (b' : List ℕ) (post : TookAll p T to at b r b') (s : Batched) (some : r ≡ Some s) where
   scans_by : (σ : Sweep) (m : Made σ p) (v : Answer) → take_answer_at σ T batch_room ≡ v
-      → Scans σ input from at b (record { scan = Rest; processor = r.processor; from = r.from; at = r.at }) b'
+      → Scans σ input from at b (record { scan = Rest; processor = s.processor; from = s.from; at = s.at }) b'
   scans_by σ m accepted e =
-      let is : r ≡ batch_as accepted σ T p from to at = post.result σ m ∙ ap (λ (v : Answer). batch_as v σ T p from to at) e in
+      let is = same_some (sym some ∙ post.result σ m ∙ ap (λ (v : Answer). batch_as v σ T to at) e) in
       record {
         new = reply_lines_lem (fresh_of σ T);
         next = longer σ T;
@@ -380,49 +384,34 @@ module _ (p : Processor) (input : List ℕ) (from to at : ℕ) (b : List ℕ) (r
             g.same σ m.sound (accepted-takes σ T batch_room e) R
             ∙ ap (λ (k : ℕ). reply_lines_lem (fresh_of σ T) ++ surveyed (lines_in (drop k input ++ R)) (longer σ T)) (sym (ap (λ (x : Batched). x.from) is));
       }
-  scans_by σ m (refused k) e =
-      let is : r ≡ batch_as (refused k) σ T p from to at = post.result σ m ∙ ap (λ (v : Answer). batch_as v σ T p from to at) e in
-      record {
-        new = [];
-        next = σ;
-        made = record { is = ap (λ (x : Batched). x.processor) is ∙ m.is; sound = m.sound };
-        place = ap (λ (x : Batched). x.at) is ∙ omega arith;
-        output = post.output σ m ∙ ap (λ (v : Answer). over-at (printed_as v σ T) at b) e;
-        why = tt;
-        same = λ R. ap (λ (k : ℕ). surveyed (lines_in (drop k input ++ R)) σ) (sym (ap (λ (x : Batched). x.from) is));
-      }
+  scans_by σ m (refused k) e = absurd (some_not_none (sym some ∙ post.result σ m ∙ ap (λ (v : Answer). batch_as v σ T to at) e))
 
-  batch_post : BatchPost p input from at b r b'
+  placed : (s.from ≡ to) × (s.at ≤ length b)
+  placed = subst (λ (x : Option Batched). IfSome x (λ y. (y.from ≡ to) × (y.at ≤ length b))) some post.place
+
+  batch_post : BatchPost p input from at b s b'
   batch_post =
       record {
-        start = begins post.either;
-        reach = λ h. reaches h post.either;
-        inside = λ h. post.inside;
+        start = omega (arith, placed.0, g.start);
+        reach = λ h. omega (arith, placed.0, g.reach h);
+        inside = λ h. placed.1;
         past_end = λ h. absurd (omega (arith, room, h));
         scans = λ σ m. scans_by σ m (take_answer_at σ T batch_room) refl;
       }
-    where
-      begins : (r.from ≡ from) ⊎ (r.from ≡ to) → from ≤ r.from
-      begins (inl e) = omega (arith, e)
-      begins (inr e) = omega (arith, e, g.start)
-
-      reaches : from ≤ length input → (r.from ≡ from) ⊎ (r.from ≡ to) → r.from ≤ length input
-      reaches h (inl e) = omega (arith, e, h)
-      reaches h (inr e) = omega (arith, e, g.reach h)
 
 -- ---- one piece, or line after line
 
-module _ (p : Processor) (T : Trace) (from to at : ℕ) (b : List ℕ) where
-  pub all_without : length b < at + batch_most → TakeAllPost p T from to at b (record { processor = p; from = from; at = at }) b
+module _ (p : Processor) (T : Trace) (to at : ℕ) (b : List ℕ) where
+  pub all_without : length b < at + batch_most → TakeAllPost p T to at b None b
   all_without h = record { room = λ l. absurd (omega arith); no_room = λ l. (refl, refl) }
 
-  module _ (r : Batched) (b' : List ℕ) where
-    pub all_with : at + batch_most ≤ length b → TookAll p T from to at b r b' → TakeAllPost p T from to at b r b'
+  module _ (r : Option Batched) (b' : List ℕ) where
+    pub all_with : at + batch_most ≤ length b → TookAll p T to at b r b' → TakeAllPost p T to at b r b'
     all_with h t = record { room = λ l. t; no_room = λ l. absurd (omega arith) }
 
-    module _ (h : TakeAllPost p T from to at b r b') where
+    module _ (h : TakeAllPost p T to at b r b') where
       -- whether there is room
-      by_room : {A : Type 0} → (TookAll p T from to at b r b' → at + batch_most ≤ length b → A) → ((r ≡ record { processor = p; from = from; at = at }) × (b' ≡ b) → A) → A
+      by_room : {A : Type 0} → (TookAll p T to at b r b' → at + batch_most ≤ length b → A) → ((r ≡ None) × (b' ≡ b) → A) → A
       by_room {A} f g = go (leb (at + batch_most) (length b)) refl
         where
           go : (t : Bool) → leb (at + batch_most) (length b) ≡ t → A
@@ -431,14 +420,18 @@ module _ (p : Processor) (T : Trace) (from to at : ℕ) (b : List ℕ) where
               f (h.room l) l
           go false e = g (h.no_room (leb-false (at + batch_most) (length b) e))
 
-      pub all_either : (r.from ≡ from) ⊎ (r.from ≡ to)
-      all_either = by_room (λ t l. t.either) (λ n. inl (ap (λ (x : Batched). x.from) n.0))
+      pub all_nothing : r ≡ None → b' ≡ b
+      all_nothing z = by_room (λ t l. t.nothing z) (λ n. n.1)
 
-      -- the lines that say T are carried out, or nothing happens
-      pub all-batch : (input : List ℕ) → Gathered input from to T → BatchPost p input from at b r b'
-      all-batch input g =
-          by_room (λ t l. batch_post p input from to at b l T g r b' t)
-          (λ n. subst (λ (x : Batched). BatchPost p input from at b x b') (sym n.0) (subst (BatchPost p input from at b (record { processor = p; from = from; at = at })) (sym n.1) (batch-nothing p input from at b)))
+      module _ (s : Batched) (some : r ≡ Some s) where
+        pub all_to : s.from ≡ to
+        all_to =
+            by_room (λ t l. (subst (λ (x : Option Batched). IfSome x (λ y. (y.from ≡ to) × (y.at ≤ length b))) some t.place).0) (λ n. absurd (some_not_none (sym some ∙ n.0)))
+
+        -- the lines that say T are carried out
+        pub all-batch : (input : List ℕ) (from : ℕ) → Gathered input from to T → BatchPost p input from at b s b'
+        all-batch input from g =
+            by_room (λ t l. batch_post p input from to at b l T g r b' t s some) (λ n. absurd (some_not_none (sym some ∙ n.0)))
 
 -- the lines up to place i are carried out, and the samples from place a on are those of the others
 pub record Going (p : Processor) (input : List ℕ) (from to at : ℕ) (flags values b₀ : List ℕ) (q : Processor) (i a place : ℕ) (b : List ℕ) : Type 0 where
@@ -451,20 +444,21 @@ module _ (p : Processor) (input : List ℕ) (from to at : ℕ) (flags values b�
   going_start h =
       record { start = omega arith; scanned = scanning_start p input from at b₀; left = left-start input from to flags values h }
 
-  module _ (q : Processor) (i a place : ℕ) (b : List ℕ) where
-    pub going_end : from ≤ i → Scanning p input from at b₀ q i place b → BatchPost p input from at b₀ (record { processor = q; from = i; at = place }) b
-    going_end s h =
-        record { start = s; reach = h.reach; inside = h.inside; past_end = λ l. absurd (omega arith); scans = h.scans }
+  pub going_end : (q : Processor) (i place : ℕ) (b : List ℕ) → from ≤ i → Scanning p input from at b₀ q i place b
+      → BatchPost p input from at b₀ (record { processor = q; from = i; at = place }) b
+  going_end q i place b s h =
+      record { start = s; reach = h.reach; inside = h.inside; past_end = λ l. absurd (omega arith); scans = h.scans }
 
-    module _ (h : Going p input from to at flags values b₀ q i a place b) (less : i < to) (end : ℕ) (line : LineEnd input i end) where
+  module _ (q : Processor) (i place : ℕ) (b : List ℕ) where
+    module _ (a : ℕ) (h : Going p input from to at flags values b₀ q i a place b) (less : i < to) (end : ℕ) (line : LineEnd input i end) where
       pub going_next_line : Next input i to a flags values end ((end - i) / 4)
       going_next_line = next-line input i to a flags values h.left less end line
 
       pub going_short : length flags ≤ 4096 → length (take (a + (end - i) / 4 - a) (drop a flags)) ≤ 4096
       going_short s = part-short (drop a flags) (a + (end - i) / 4 - a) 4096 (omega (arith, going_next_line.fits))
 
-      module _ (k : ℕ) (e : k ≡ a + (end - i) / 4) (r : Batched) (b' : List ℕ) (size : length b' ≡ length b)
-          (post : TakeAllPost q (piece_of (take (k - a) (drop a flags)) (take (k - a) (drop a values))) i end place b r b') where
+      module _ (k : ℕ) (e : k ≡ a + (end - i) / 4) (r : Option Batched) (b' : List ℕ) (size : length b' ≡ length b)
+          (post : TakeAllPost q (piece_of (take (k - a) (drop a flags)) (take (k - a) (drop a values))) end place b r b') where
         n : Next input i to a flags values end ((end - i) / 4)
         n = next-line input i to a flags values h.left less end line
 
@@ -482,43 +476,22 @@ module _ (p : Processor) (input : List ℕ) (from to at : ℕ) (flags values b�
             subst (Gathered input i end) (sym same)
             (one_more input i i end (piece_of [] []) (gathered_none input i) line n.said n.is (subst Sized n.is (reading_sized (part input i end))))
 
-        pub going_taken : Scanning p input from at b₀ r.processor r.from r.at b'
+        -- nothing happened
+        pub going_stopped : r ≡ None → BatchPost p input from at b₀ (record { processor = q; from = i; at = place }) b'
         unfolding T
-        going_taken = scanning_batch p input from at b₀ q i place b h.scanned r b' size (all-batch q T i end place b r b' post input gathered)
-
-        -- nothing happened, or something that ends here
-        pub going_stopped : r.from ≡ i → BatchPost p input from at b₀ (record { processor = r.processor; from = i; at = r.at }) b'
         going_stopped z =
-            going_end_at (subst (λ (x : ℕ). Scanning p input from at b₀ r.processor x r.at b') z going_taken)
-          where
-            going_end_at : Scanning p input from at b₀ r.processor i r.at b' → BatchPost p input from at b₀ (record { processor = r.processor; from = i; at = r.at }) b'
-            going_end_at s =
-                record { start = h.start; reach = s.reach; inside = s.inside; past_end = λ l. absurd (omega arith); scans = s.scans }
+            going_end q i place b' h.start (subst (Scanning p input from at b₀ q i place) (sym (all_nothing q T end place b r b' post z)) h.scanned)
 
-        pub going_on : (r.from ≡ i → ⊥) → Going p input from to at flags values b₀ r.processor end k r.at b'
-        unfolding T
-        going_on z =
-            record {
-              start = omega (arith, h.start, line.some);
-              scanned = subst (λ (x : ℕ). Scanning p input from at b₀ r.processor x r.at b') (at-end (all_either q T i end place b r b' post)) going_taken;
-              left = subst (λ (x : ℕ). Left input end to x flags values) (sym e) n.others;
-            }
-          where
-            at-end : (r.from ≡ i) ⊎ (r.from ≡ end) → r.from ≡ end
-            at-end (inl x) = absurd (z x)
-            at-end (inr x) = x
+        module _ (s : Batched) (some : r ≡ Some s) where
+          pub going_to : s.from ≡ end
+          unfolding T
+          going_to = all_to q T end place b r b' post s some
 
--- nothing happened, and then something did
-pub batch_then : (p : Processor) (input : List ℕ) (from at : ℕ) (b : List ℕ) → at ≤ length b → (r : Batched) (b₁ : List ℕ) → length b₁ ≡ length b → BatchPost p input from at b r b₁
-    → r.from ≡ from → (s : Batched) (b₂ : List ℕ) → length b₂ ≡ length b₁ → BatchPost r.processor input from r.at b₁ s b₂ → BatchPost p input from at b s b₂
-batch_then p input from at b room r b₁ l g z s b₂ m f =
-    let one = scanning_batch p input from at b p from at b (scanning_start p input from at b) r b₁ l g in
-    let here = subst (λ (x : ℕ). Scanning p input from at b r.processor x r.at b₁) z one in
-    let two = scanning_batch p input from at b r.processor from r.at b₁ here s b₂ m f in
-    record {
-      start = f.start;
-      reach = two.reach;
-      inside = two.inside;
-      past_end = λ h. absurd (omega arith);
-      scans = two.scans;
-    }
+          pub going_on : Going p input from to at flags values b₀ s.processor s.from k s.at b'
+          unfolding T
+          going_on =
+              record {
+                start = omega (arith, h.start, line.some, going_to);
+                scanned = scanning_batch p input from at b₀ q i place b h.scanned s b' size (all-batch q T end place b r b' post s some input i gathered);
+                left = subst (λ (x : ℕ). Left input s.from to x flags values) (sym e) (subst (λ (x : ℕ). Left input x to (a + (end - i) / 4) flags values) (sym going_to) n.others);
+              }

@@ -1,5 +1,5 @@
 -- Lines of samples that are taken as one piece.
-use Rattle.std.specs.Prelude.{ℕ, ◌+◌, ◌-◌, ◌*◌, ◌≤◌, ◌<◌, Bool, true, false, ◌&&◌, List, [], ◌∷◌, ◌++◌, ◌≡◌, ◌⊎◌, leb, eqb, length, get_or, take, drop}
+use Rattle.std.specs.Prelude.{Option, Some, None, IfSome, ℕ, ◌+◌, ◌-◌, ◌*◌, ◌≤◌, ◌<◌, Bool, true, false, ◌&&◌, List, [], ◌∷◌, ◌++◌, ◌≡◌, leb, eqb, length, get_or, take, drop}
 use Rattle.rules.specs.Lists.{any, All}
 use Rattle.rules.specs.Samples.{Trace, bad, sweep_limit, piece_limit}
 use Rattle.rules.specs.Buffers.{over-at}
@@ -94,24 +94,24 @@ abbrev pub batch_most : ℕ
 batch_most = most_replies piece_limit * reply_line_size
 
 -- it is taken and its replies printed, or nothing happens
-abbrev pub batch_as : Answer → Sweep → Trace → Processor → (from to at : ℕ) → Batched
-batch_as accepted σ T p from to at = record { processor = processor_of (longer σ T); from = to; at = at + length (reply_lines_lem (fresh_of σ T)) }
-batch_as (refused k) σ T p from to at = record { processor = p; from = from; at = at }
+abbrev pub batch_as : Answer → Sweep → Trace → (to at : ℕ) → Option Batched
+batch_as accepted σ T to at = Some (record { processor = processor_of (longer σ T); from = to; at = at + length (reply_lines_lem (fresh_of σ T)) })
+batch_as (refused k) σ T to at = None
 
 abbrev pub printed_as : Answer → Sweep → Trace → List ℕ
 printed_as accepted σ T = reply_lines_lem (fresh_of σ T)
 printed_as (refused k) σ T = []
 
-pub record TookAll (p : Processor) (T : Trace) (from to at : ℕ) (b : List ℕ) (r : Batched) (b' : List ℕ) : Type 0 where
-  pub either : (r.from ≡ from) ⊎ (r.from ≡ to)
-  pub inside : r.at ≤ length b
-  pub result : (σ : Sweep) → Made σ p → r ≡ batch_as (take_answer_at σ T batch_room) σ T p from to at
+pub record TookAll (p : Processor) (T : Trace) (to at : ℕ) (b : List ℕ) (r : Option Batched) (b' : List ℕ) : Type 0 where
+  pub place : IfSome r (λ s. (s.from ≡ to) × (s.at ≤ length b))
+  pub nothing : r ≡ None → b' ≡ b
+  pub result : (σ : Sweep) → Made σ p → r ≡ batch_as (take_answer_at σ T batch_room) σ T to at
   pub output : (σ : Sweep) → Made σ p → b' ≡ over-at (printed_as (take_answer_at σ T batch_room) σ T) at b
 
 -- without room for 80 replies of 39 bytes nothing happens
-pub record TakeAllPost (p : Processor) (T : Trace) (from to at : ℕ) (b : List ℕ) (r : Batched) (b' : List ℕ) : Type 0 where
-  pub room : at + batch_most ≤ length b → TookAll p T from to at b r b'
-  pub no_room : length b < at + batch_most → (r ≡ record { processor = p; from = from; at = at }) × (b' ≡ b)
+pub record TakeAllPost (p : Processor) (T : Trace) (to at : ℕ) (b : List ℕ) (r : Option Batched) (b' : List ℕ) : Type 0 where
+  pub room : at + batch_most ≤ length b → TookAll p T to at b r b'
+  pub no_room : length b < at + batch_most → (r ≡ None) × (b' ≡ b)
 
 -- the lines so far are carried out; behind the end of the output nothing happens
 pub record BatchPost (p : Processor) (input : List ℕ) (from at : ℕ) (b : List ℕ) (r : Batched) (b' : List ℕ) : Type 0 where

@@ -74,43 +74,33 @@ fn gather(input: &[u8], from: usize, flags: &mut [u8], values: &mut [u8]) -> Gat
     Gathering { end: i, n }
 }
 
-// Takes a piece that lines say and prints the replies; without room for these, and where the sweep does not take it, nothing happens.
+// Takes a piece that the lines before place `to` say and prints the replies. None without room for these, and where the sweep does not take it:
+// then nothing happens.
 fn take_all(
     p: Processor,
     flags: &[u8],
     values: &[u8],
-    from: usize,
     to: usize,
     out: &mut [u8],
     at: usize,
-) -> Batched
+) -> Option<Batched>
     requires { length flags.now ≤ 4096 }
-    ensures { TakeAllPost p (piece_of flags.now values.now) from to at out.old result out.new }
+    ensures { TakeAllPost p (piece_of flags.now values.now) to at out.old result out.new }
 {
     if !has_room(MOST, out, at) {
-        return Batched {
-            processor: p,
-            from,
-            at,
-        };
+        return None;
     }
     let mut handed = [0u8; ROOM];
     let t = take(p, flags, values, &mut handed);
-    match t.answer {
-        Err(_) => Batched {
-            processor: t.processor,
-            from,
-            at,
-        },
-        Ok(count) => {
-            let end = reply_lines(&handed, count, out, at);
-            Batched {
-                processor: t.processor,
-                from: to,
-                at: end,
-            }
-        }
-    }
+    let Ok(count) = t.answer else {
+        return None;
+    };
+    let end = reply_lines(&handed, count, out, at);
+    Some(Batched {
+        processor: t.processor,
+        from: to,
+        at: end,
+    })
 }
 
 // Whether the line at a place begins as samples do, with 02; if not, a batch is not worth a try.
@@ -142,38 +132,32 @@ fn take_lines(
     requires { (length flags.now ≤ 4096) × (at ≤ length out.old) × Parts input.now from to flags.now values.now }
     ensures { BatchPost p input.now from at out.old result out.new }
 {
-    let mut q = p;
-    let mut i = from;
+    let mut done = Batched {
+        processor: p,
+        from,
+        at,
+    };
     let mut a: usize = 0;
-    let mut place = at;
     // Stays: a turn goes on by the line that it finds, and its samples by a quarter of that; a `for` would count turns that nothing needs.
-    while i < to {
-        let Some(end) = line_end(input, i) else {
-            return Batched {
-                processor: q,
-                from: i,
-                at: place,
-            };
+    while done.from < to {
+        let Some(end) = line_end(input, done.from) else {
+            return done;
         };
-        let b = a + (end - i) / 4;
-        let t = take_all(q, &flags[a..b], &values[a..b], i, end, out, place);
-        q = t.processor;
-        place = t.at;
-        if t.from == i {
-            return Batched {
-                processor: q,
-                from: i,
-                at: place,
-            };
-        }
-        i = end;
+        let b = a + (end - done.from) / 4;
+        let Some(next) = take_all(
+            done.processor,
+            &flags[a..b],
+            &values[a..b],
+            end,
+            out,
+            done.at,
+        ) else {
+            return done;
+        };
+        done = next;
         a = b;
     }
-    Batched {
-        processor: q,
-        from: i,
-        at: place,
-    }
+    done
 }
 
 // Carries out the lines of samples from a place on, in one piece, or where the sweep does not take that, line by line up to the first that it
@@ -200,18 +184,8 @@ pub fn batch(p: Processor, input: &[u8], from: usize, out: &mut [u8], at: usize)
     let g = gather(input, from, &mut flags, &mut values);
     let n = g.n;
     let to = g.end;
-    let t = take_all(p, &flags[..n], &values[..n], from, to, out, at);
-    if t.from != from {
-        return t;
+    if let Some(done) = take_all(p, &flags[..n], &values[..n], to, out, at) {
+        return done;
     }
-    take_lines(
-        t.processor,
-        input,
-        from,
-        to,
-        &flags[..n],
-        &values[..n],
-        out,
-        t.at,
-    )
+    take_lines(p, input, from, to, &flags[..n], &values[..n], out, at)
 }

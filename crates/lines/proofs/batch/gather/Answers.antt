@@ -1,5 +1,4 @@
 use Rattle.lines.proofs.Batching.{so_far_start, so_far_end, so_far_few, so_far_same, so_far_next}
-use Rattle.ends.proofs.Newlines.{end-at}
 use native.Mathlib.Omega.{arith}
 use mathlib.Core.Path.{refl}
 use Rattle.lines.proofs.batch.gather.Goals as goal
@@ -22,13 +21,13 @@ returns-in_default c =
     so_far_end a.input.now a.from a.flags.now a.values.now l.flags l.values l.i l.n l.invariant _ refl refl
 
 pub slice_bounds-add_samples-count : goal.slice_bounds-add_samples-count
-slice_bounds-add_samples-count c = omega (arith, (end-at c.args.input.now c.loop-n.i _ _ c.in-Some.is c.line_end.ensures).some)
+slice_bounds-add_samples-count c = omega (arith, c.in-Some.ensures.some)
 
 pub slice_bounds-add_samples-start : goal.slice_bounds-add_samples-start
-slice_bounds-add_samples-start c = omega (arith, (end-at c.args.input.now c.loop-n.i _ _ c.in-Some.is c.line_end.ensures).some)
+slice_bounds-add_samples-start c = omega (arith, c.in-Some.ensures.some)
 
 pub slice_bounds-add_samples-end : goal.slice_bounds-add_samples-end
-slice_bounds-add_samples-end c = omega (arith, (end-at c.args.input.now c.loop-n.i _ _ c.in-Some.is c.line_end.ensures).inside)
+slice_bounds-add_samples-end c = omega (arith, c.in-Some.ensures.inside)
 
 pub add_samples-k-requires : goal.add_samples-k-requires
 add_samples-k-requires c = (omega (arith, c.requires.0, c.loop-n.invariant.flag-room), omega (arith, c.requires.1, c.loop-n.invariant.values_room))
@@ -61,7 +60,7 @@ pub loop-n-preserved : goal.loop-n-preserved
 loop-n-preserved c =
     let l = c.loop-n in
     let a = c.args in
-    so_far_next a.input.now a.from a.flags.now a.values.now l.flags l.values l.i l.n l.invariant _ _ _ _ c.add_samples-k.ensures (omega arith) (end-at a.input.now l.i _ _ c.in-Some.is c.line_end.ensures) c.if-k-eq0.false
+    so_far_next a.input.now a.from a.flags.now a.values.now l.flags l.values l.i l.n l.invariant _ _ _ _ c.add_samples-k.ensures (omega arith) c.in-Some.ensures c.if-k-eq0.false
 
 pub shape_of-flags : goal.shape_of-flags
 shape_of-flags c = c.loop-n.invariant.flag-room
