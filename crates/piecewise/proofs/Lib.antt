@@ -2,3 +2,4 @@
 pub mod Lists
 pub mod Growing
 pub mod Piecing
+pub mod Turns

@@ -28,7 +28,7 @@ use Rattle.whole_refusals.specs.Whole.{whole_answer}
 use Rattle.takes.specs.Post.{part}
 use Rattle.takes.proofs.Taking.{all_take, all_drop, up_to, between, up_more, up_all}
 use Rattle.std.specs.Int.{div_ceil}
-use Rattle.takes.proofs.Turns.{begin, begin_here, begin_next}
+use Rattle.piecewise.proofs.Turns.{begin, begin_here, begin_next}
 use Rattle.whole.proofs.Answering.{Clear, clear}
 use Rattle.piecewise.specs.declared.Swept.{Swept}
 use Rattle.piecewise.specs.Post.{swept_as, buffer_as, ByCallsPost, Calls}

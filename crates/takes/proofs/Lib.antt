@@ -3,4 +3,3 @@ pub mod Pieces
 pub mod Taking
 pub mod Keeping
 pub mod Resting
-pub mod Turns

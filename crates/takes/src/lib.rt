@@ -68,12 +68,14 @@ pub fn take_all(p: Processor, flags: &[u8], values: &[u8], piece: usize, out: &m
     let mut recent = p.recent;
     let mut kept: usize = 0;
     let mut at: usize = 0;
-    for k in 0..n.div_ceil(piece) {
-        let i = k * piece;
+    let mut i: usize = 0;
+    // Stays: with `for k in 0..n.div_ceil(piece)` a quiet sweep in pieces of 64 took 0.100 ns a tick, with this loop 0.087 (0.089 before both).
+    while i < n {
         let end = i + piece.min(n - i);
         let front = y.front;
         let first = first_place(y);
         if is_quiet(front, first, i as u32, &flags[i..end]) {
+            i = end;
             continue;
         }
         keep_part(&mut recent, values, kept, i);
@@ -89,6 +91,7 @@ pub fn take_all(p: Processor, flags: &[u8], values: &[u8], piece: usize, out: &m
         kept = end;
         at = behind(at, y.at, out.len());
         y.at = 0;
+        i = end;
     }
     keep_part(&mut recent, values, kept, n);
     arrived(p, y, recent, n as u32, at)

@@ -5,7 +5,7 @@ use mathlib.Core.Path.{ap, sym, subst}
 use lib.ListN.{length}
 use Rattle.calls.specs.declared.Answered.{Answered}
 use Rattle.takes.proofs.Taking.{all-bytes}
-use Rattle.takes.proofs.Turns.{begin_first, begin_inside, begin_last}
+use Rattle.piecewise.proofs.Turns.{begin_first, begin_inside, begin_last}
 use Rattle.piecewise.proofs.Piecing.{Pieces, some, alike, pieces_start, pieces_here, pieces_there, room-left, count_small, pieces_next, pieces_end}
 use Rattle.piecewise.proofs.take_each.Goals as goal
 

@@ -1,6 +1,6 @@
 use lib.ListN.{length}
 use Rattle.piecewise.proofs.Piecing.{FromOpening}
-use Rattle.takes.proofs.Turns.{begin}
+use Rattle.piecewise.proofs.Turns.{begin}
 use Rattle.piecewise.proofs.take_each.Given as goal
 
 abbrev pub invariant-loop-k : goal.invariant-loop-k
