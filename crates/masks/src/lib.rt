@@ -44,6 +44,7 @@ fn across(first: u64, second: u64, r: u32) -> u64
 }
 
 // The ticks u from t-242 on that a reply with F1 at q covers.
+// Stays: Tick is a form that document 01 names, one number, so the limit of t stands in the clauses here and in covering, span and visits.
 pub fn cover_mask(q: Tick, t: Tick) -> u64
     requires { t.0 < 65000 }
     ensures { CoverMask q.0 t.0 result }

@@ -1,11 +1,10 @@
 // The processor between calls, and a piece on its way through it.
 #![tactic(auto)]
 
-ghost use Rattle.std.specs.Prelude.{◌≡◌, length};
-ghost use Rattle.marking.specs.Marks.{four};
+ghost use Rattle.std.specs.Prelude.{◌≡◌};
 ghost use Rattle.rules.specs.Samples.{nothing};
 ghost use Rattle.processor.specs.State.{idle_processor, running_processor};
-ghost use Rattle.processor.specs.Arrays.{listed, progress_of_lem, processor_at};
+ghost use Rattle.processor.specs.Arrays.{progress_of_lem, processor_at};
 
 use front::words::{Front, no_front};
 use places::{no_counts, no_places};
@@ -56,26 +55,15 @@ pub struct Progress {
     pub at: usize,
 }
 
-// The four places, of which there are always four.
-pub fn all_four(p: [Place; 4]) -> [Place; 4]
-    ensures is { result ≡ p }
-    ensures size { length result ≡ 4 }
-    ensures named { result ≡ listed (four p) }
-{
-    p
-}
-
 // Where a piece, or the zeros past the end, begin: at the start of a buffer.
 pub fn progress_of(p: Processor) -> Progress
     ensures { result ≡ progress_of_lem p }
 {
-    let front = p.front;
     let places = p.places;
-    let counts = p.counts;
     Progress {
-        front,
+        front: p.front,
         places,
-        counts,
+        counts: p.counts,
         at: 0,
     }
 }
@@ -84,16 +72,13 @@ pub fn progress_of(p: Processor) -> Progress
 pub fn moved(p: Processor, y: Progress, recent: [u8; 256], taken: u32) -> Processor
     ensures { result ≡ processor_at p y recent taken }
 {
-    let opening = p.opening;
-    let front = y.front;
     let places = y.places;
-    let counts = y.counts;
     Processor {
-        opening,
+        opening: p.opening,
         taken,
-        front,
+        front: y.front,
         recent,
-        places: all_four(places),
-        counts,
+        places,
+        counts: y.counts,
     }
 }
