@@ -16,14 +16,9 @@ use rules::{Place, Slot};
 pub fn speaks(c: bool, p: Place, v: u8) -> bool
     ensures { result ≡ (c && test (agrees standard v) p) }
 {
-    let s = p.slot;
-    match s {
+    match p.slot {
         Slot::Idle => false,
-        Slot::Open(r) => {
-            let f = r.reference;
-            let e = f.estimate;
-            c & near(level_of(e), v)
-        }
+        Slot::Open(r) => c & near(level_of(r.reference.estimate), v),
     }
 }
 

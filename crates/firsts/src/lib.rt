@@ -13,12 +13,12 @@ use replies::{ended, military};
 use rules::{Place, Pulse, Reply, Slot, Tick};
 
 // The tick of F1; the highest number where the place is idle: no reply of a sweep has it.
+// Stays: NonePost, HidesPost and Tells (specs/Ticks.antt) speak of one tick for each place, and a test by it has no branch.
 fn first_of(p: Place) -> Tick
     ensures { result ≡ first_of p }
 {
-    let s = p.slot;
-    match s {
-        Slot::Idle => Tick(4294967295),
+    match p.slot {
+        Slot::Idle => Tick(u32::MAX),
         Slot::Open(r) => r.f1,
     }
 }
@@ -31,6 +31,7 @@ pub fn is_over(p: Place, u: Tick) -> bool
 }
 
 // The ticks of F1 of the four places; the highest number for an idle one.
+// Stays: four fields, as in Words and Places: each is read by its own name, none by a number that is found out, and f[3] is no plainer than f.d.
 #[derive(Clone, Copy)]
 pub struct Firsts {
     pub a: Tick,
@@ -54,7 +55,7 @@ pub fn firsts_of(p: [Place; 4]) -> Firsts
 fn is_none(q: Tick) -> bool
     ensures { NonePost q result }
 {
-    q.0 == 4294967295
+    q.0 == u32::MAX
 }
 
 // A reply with F1 at q covers w, where an F2 of a later bracket stands: at position 14 or 17.

@@ -9,44 +9,38 @@ use agreement::{agreement_of, speaks};
 use blocks::{block_length, none_due, packed, stays};
 use covering::{covers_of, risks_of};
 use firsts::{firsts_of, free, is_busy, is_over, opened};
+use front::values::Values;
 use front::words::advance;
 use handing::hand_one;
 use marking::{any_word, behind, twice, which, with_word, without_word};
 use masks::{open_cover, open_phantom};
 use outcomes::{Outcome, counted, outcome_of};
 use plane::{lowest, marked, without_lowest};
-use processor::{Progress, all_four};
+use processor::Progress;
 use rules::{Place, Slot, Tick};
 use settling::heard;
 use span::{above, has_bracket, second_main, span_of, tick_of, top};
 use visits::{edge_at, second_at, second_tick, wanted};
 
-// The progress after the flags of a piece, which begins once `base` ticks are taken. At each visit replies that are over are handed out, then the bracket is
-// tried, if one stands there, then the edge goes to the places that cover it. Only a bracket opens a reply or removes one; behind it the ticks to visit are
-// found anew. `from` shows that the visits end: the edges before tick `from` of the span are taken.
-pub fn work(
-    o: Progress,
-    recent: &[u8; 256],
-    base: u32,
-    flags: &[u8],
-    values: &[u8],
-    out: &mut [u8],
-) -> Progress
-    requires { base + length flags.now < 65000 }
-    ensures { BlocksPost o recent.now base flags.now values.now out.old result out.new }
+// The progress after the flags of a piece, with the values at hand. At each visit replies that are over are handed out, then the bracket is tried, if one
+// stands there, then the edge goes to the places that cover it. Only a bracket opens a reply or removes one; behind it the ticks to visit are found anew.
+// `from` shows that the visits end: the edges before tick `from` of the span are taken.
+pub fn work(o: Progress, flags: &[u8], values: &Values<'_>, out: &mut [u8]) -> Progress
+    requires { values.now.base + length flags.now < 65000 }
+    ensures { BlocksPost o values.now.recent.now values.now.base flags.now values.now.piece.now out.old result out.new }
 {
     let n = flags.len();
     let mut front = o.front;
-    let begun = o.places;
-    let mut places = all_four(begun);
+    let mut places = o.places;
     let mut counts = o.counts;
     let mut at = o.at;
     let mut done: usize = 0;
+    // Stays: a block is a place and a length in the flags (PackedPart), and t counts by the same number; beside a chunk both would be counted anew.
     while done < n {
         let r = block_length(n - done);
         let x = packed(flags, done, r);
         done += r;
-        let taken = base + done as u32;
+        let taken = values.base + done as u32;
         let t = Tick(taken);
         if stays(front, places[0], x, t) {
             continue;
@@ -73,7 +67,7 @@ pub fn work(
                 risk = without_word(risk, 0);
                 continue;
             }
-            let e = edge_at(s, i, u, recent, base, values);
+            let e = edge_at(s, i, u, values);
             if has_bracket(s, i) {
                 let w = second_tick(s, i, u);
                 let f = firsts_of(places);
@@ -93,7 +87,7 @@ pub fn work(
                         continue;
                     }
                     Outcome::Opens => {
-                        let f2 = second_at(s, i, u, recent, base, values);
+                        let f2 = second_at(s, i, u, values);
                         let reply = opened(f, on, i, e, f2);
                         let j = free(f);
                         places[j] = Place {

@@ -7,6 +7,7 @@ ghost use Rattle.marking.specs.Marks.{with_word_lem, without_word_lem, AnyWord, 
 use plane::{Nth, marked};
 
 // A word of ticks for each of the four places.
+// Stays: four fields, by which Marked, AnyWord and TwiceWord (specs/Marks.antt) name them; the tests read each by its own name.
 #[derive(Clone, Copy)]
 pub struct Words {
     pub a: u64,

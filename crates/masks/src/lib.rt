@@ -43,6 +43,7 @@ fn across(first: u64, second: u64, r: u32) -> u64
 }
 
 // The ticks u from t-242 on that words mark whose first tick is 65 before q.
+// Stays: Tick is a form that document 01 names, one number, so the limit of t stands in the clauses here and in covering, span and visits.
 fn shown(words: &[u64], q: Tick, t: Tick) -> u64
     requires below { t.0 < 65000 }
     requires first { get_or words.now 0 0 ≡ 0 }

@@ -4,6 +4,7 @@
 ghost use Rattle.std.specs.Prelude.{◌<◌};
 ghost use Rattle.pieces.specs.Feeding.{DrainPost};
 
+use front::values::Values;
 use machine::work;
 use processor::Progress;
 
@@ -13,5 +14,10 @@ pub fn drain(o: Progress, recent: &[u8; 256], base: u32, out: &mut [u8]) -> Prog
     ensures { DrainPost o recent.now base out.old result out.new }
 {
     let zeros = [0u8; 448];
-    work(o, recent, base, &zeros, &zeros, out)
+    let values = Values {
+        recent,
+        base,
+        piece: &zeros,
+    };
+    work(o, &zeros, &values, out)
 }

@@ -1,11 +1,10 @@
 // The processor between calls, and a piece on its way through it.
 #![tactic(auto)]
 
-ghost use Rattle.std.specs.Prelude.{◌≡◌, length};
-ghost use Rattle.marking.specs.Marks.{four};
+ghost use Rattle.std.specs.Prelude.{◌≡◌};
 ghost use Rattle.rules.specs.Samples.{nothing};
 ghost use Rattle.processor.specs.State.{idle_processor, running_processor};
-ghost use Rattle.processor.specs.Arrays.{listed, progress_of_lem, processor_at};
+ghost use Rattle.processor.specs.Arrays.{progress_of_lem, processor_at};
 
 use front::words::{Front, no_front};
 use places::no_places;
@@ -54,15 +53,6 @@ pub struct Progress {
     pub places: [Place; 4],
     pub counts: Counts,
     pub at: usize,
-}
-
-// The four places, of which there are always four.
-pub fn all_four(p: [Place; 4]) -> [Place; 4]
-    ensures is { result ≡ p }
-    ensures size { length result ≡ 4 }
-    ensures named { result ≡ listed (four p) }
-{
-    p
 }
 
 // Where a piece, or the zeros past the end, begin: at the start of a buffer.

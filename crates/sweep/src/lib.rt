@@ -7,7 +7,7 @@ ghost use Rattle.rules.specs.Samples.{lent, sweep_limit};
 ghost use Rattle.calls.specs.Post.{open_of, TakePost, TakenPiece, ClosePost, ClosedOpen};
 
 use calls::{Answered, Closed, closed_after, no_close, no_take, opened_with};
-use front::values::keep;
+use front::values::{Values, keep};
 use machine::work;
 use pieces::drain;
 use processor::{Processor, moved, progress_of};
@@ -36,7 +36,12 @@ fn take_piece(p: Processor, flags: &[u8], values: &[u8], out: &mut [u8]) -> Answ
     ensures { TakenPiece p (lent flags.now values.now) out.old result out.new }
 {
     let mut recent = p.recent;
-    let y = work(progress_of(p), &recent, p.taken, flags, values, out);
+    let held = Values {
+        recent: &recent,
+        base: p.taken,
+        piece: values,
+    };
+    let y = work(progress_of(p), flags, &held, out);
     keep(&mut recent, values);
     let taken = p.taken + flags.len() as u32;
     Answered {

@@ -9,7 +9,7 @@ ghost use Rattle.rules.specs.Samples.{lent};
 ghost use Rattle.takes.specs.Post.{part, arrived_at, TakeAllPost};
 
 use blocks::is_quiet;
-use front::values::keep;
+use front::values::{Values, keep};
 use machine::work;
 use processor::{Processor, Progress, moved, progress_of};
 use rules::{Place, RECORD};
@@ -79,14 +79,12 @@ pub fn take_all(p: Processor, flags: &[u8], values: &[u8], piece: usize, out: &m
             continue;
         }
         keep_part(&mut recent, values, kept, i);
-        y = work(
-            y,
-            &recent,
-            i as u32,
-            &flags[i..end],
-            &values[i..end],
-            &mut out[at..],
-        );
+        let held = Values {
+            recent: &recent,
+            base: i as u32,
+            piece: &values[i..end],
+        };
+        y = work(y, &flags[i..end], &held, &mut out[at..]);
         keep_part(&mut recent, values, i, end);
         kept = end;
         at = behind(at, y.at, out.len());

@@ -4,7 +4,7 @@
 ghost use Rattle.std.specs.Prelude.{◌+◌, ◌≤◌, ◌<◌, ◌≡◌};
 ghost use Rattle.visits.specs.Visits.{Wanted, edge_in, apart_in, second_in};
 
-use front::values::value_at;
+use front::values::Values;
 use marking::{Words, any_word};
 use plane::{Nth, marked};
 use rules::{Pulse, Tick};
@@ -18,16 +18,14 @@ pub fn wanted(s: Span, on: Words, x: u64) -> u64
 }
 
 // The edge at u, which is tick i of the span: its value is that of the next tick.
-pub fn edge_at(s: Span, i: Nth, u: Tick, recent: &[u8; 256], base: u32, values: &[u8]) -> Pulse
+pub fn edge_at(s: Span, i: Nth, u: Tick, values: &Values<'_>) -> Pulse
     requires { u.0 < 65536 }
-    ensures { result ≡ edge_in s i.n u.0 recent.now base values.now }
+    ensures { result ≡ edge_in s i.n u.0 values.now.recent.now values.now.base values.now.piece.now }
 {
-    let main = marked(s.main, i);
-    let value = value_at(recent, base, values, u.0 + 1);
     Pulse {
         tick: u,
-        main,
-        value,
+        main: marked(s.main, i),
+        value: values.at(u.0 + 1),
     }
 }
 
@@ -41,16 +39,14 @@ pub fn second_tick(s: Span, i: Nth, u: Tick) -> Tick
 }
 
 // The F2 of the bracket at u, where one stands.
-pub fn second_at(s: Span, i: Nth, u: Tick, recent: &[u8; 256], base: u32, values: &[u8]) -> Pulse
+pub fn second_at(s: Span, i: Nth, u: Tick, values: &Values<'_>) -> Pulse
     requires { u.0 < 65536 }
-    ensures { result ≡ second_in s i.n u.0 recent.now base values.now }
+    ensures { result ≡ second_in s i.n u.0 values.now.recent.now values.now.base values.now.piece.now }
 {
     let w = second_tick(s, i, u);
-    let main = second_main(s, i);
-    let value = value_at(recent, base, values, w.0 + 1);
     Pulse {
         tick: w,
-        main,
-        value,
+        main: second_main(s, i),
+        value: values.at(w.0 + 1),
     }
 }

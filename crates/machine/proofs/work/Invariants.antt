@@ -11,7 +11,7 @@ use Rattle.machine.proofs.Turns.{open_count, turns_left}
 use Rattle.machine.proofs.work.Given as goal
 
 abbrev pub invariant-loop-todo : goal.invariant-loop-todo
-invariant-loop-todo l = Working (machine_in l.initial.places l.initial.counts) l.s l.r l.t.0 l.recent l.base l.values l.initial.at l.initial.out l.out l.places l.on l.risk l.counts l.at l.todo l.from × TwiceWord l.on l.both
+invariant-loop-todo l = Working (machine_in l.initial.places l.initial.counts) l.s l.r l.t.0 l.values.recent.now l.values.base l.values.piece.now l.initial.at l.initial.out l.out l.places l.on l.risk l.counts l.at l.todo l.from × TwiceWord l.on l.both
 
 abbrev pub decreases-loop-todo : goal.decreases-loop-todo
 decreases-loop-todo l = turns_left l.from l.places l.risk
@@ -23,13 +23,13 @@ abbrev pub decreases-loop-k : goal.decreases-loop-k
 decreases-loop-k l = 4 - l.k
 
 abbrev pub invariant-loop-t : goal.invariant-loop-t
-invariant-loop-t l = Hands l.r l.t.0 l.recent l.base l.values l.counts l.initial.out l.initial.places l.initial.at l.out l.places l.at
+invariant-loop-t l = Hands l.r l.t.0 l.values.recent.now l.values.base l.values.piece.now l.counts l.initial.out l.initial.places l.initial.at l.out l.places l.at
 
 abbrev pub decreases-loop-t : goal.decreases-loop-t
 decreases-loop-t l = open_count l.places
 
 abbrev pub invariant-loop-done : goal.invariant-loop-done
-invariant-loop-done l = (length l.places ≡ 4) × Feeding (record { front = l.initial.front; places = l.initial.places; counts = l.initial.counts; at = l.initial.at }) l.recent l.base l.flags l.values l.initial.out l.out (record { front = l.front; places = l.places; counts = l.counts; at = l.at }) l.done
+invariant-loop-done l = (length l.places ≡ 4) × Feeding (record { front = l.initial.front; places = l.initial.places; counts = l.initial.counts; at = l.initial.at }) l.values.recent.now l.values.base l.flags l.values.piece.now l.initial.out l.out (record { front = l.front; places = l.places; counts = l.counts; at = l.at }) l.done
 
 abbrev pub decreases-loop-done : goal.decreases-loop-done
 decreases-loop-done l = length l.flags - l.done

@@ -2,4 +2,4 @@
 use Rattle.visits.proofs.edge_at.Goals as goal
 
 pub returns : goal.returns
-returns c = λ j. record { tick = c.args.u; main = c.marked-main.ensures j; value = c.value_at-value.ensures j }
+returns c = λ j. record { tick = c.args.u; main = c.marked.ensures j; value = c.at.ensures j }

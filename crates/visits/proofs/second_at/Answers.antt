@@ -10,6 +10,6 @@ returns c =
     let w = c.second_tick-w.ensures.is in
     λ j. record {
       tick = record { 0 = w j };
-      main = c.second_main-main.ensures j;
-      value = (c.value_at-value.ensures ∙ ap (λ (d : ℕ). value_of a.recent.now a.base a.values.now (d + 1)) w) j;
+      main = c.second_main.ensures j;
+      value = (c.at.ensures ∙ ap (λ (d : ℕ). value_of a.values.now.recent.now a.values.now.base a.values.now.piece.now (d + 1)) w) j;
     }
