@@ -29,8 +29,11 @@ slice_bounds-take-end-in-loop-k c =
     let a = c.args in
     let l = c.loop-k in
     let more = subst (λ (n : ℕ). l.k < n) c.div_ceil-k-end.ensures c.loop-k-test.true in
-    omega (arith, alike a.opening (record { flags = a.flags.now; values = a.values.now }) a.piece a.out.now c.requires,
-    begin_inside (length a.flags.now) a.piece (some a.opening (record { flags = a.flags.now; values = a.values.now }) a.piece a.out.now c.requires) l.k more)
+    omega (
+      arith,
+      alike a.opening (record { flags = a.flags.now; values = a.values.now }) a.piece a.out.now c.requires,
+      begin_inside (length a.flags.now) a.piece (some a.opening (record { flags = a.flags.now; values = a.values.now }) a.piece a.out.now c.requires) l.k more,
+    )
 
 pub slice_bounds-take-count-in-loop-k-2 : goal.slice_bounds-take-count-in-loop-k-2
 slice_bounds-take-count-in-loop-k-2 c =
