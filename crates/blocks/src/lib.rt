@@ -33,10 +33,7 @@ pub fn block_length(n: usize) -> usize
     ensures within { result ≤ n }
     ensures some { 0 < n → 0 < result }
 {
-    if n < 64 {
-        return n;
-    }
-    64
+    n.min(64)
 }
 
 // Whether none of the planes has a flag.

@@ -105,6 +105,7 @@ fn any_inside(f: Firsts, on: Words, i: Nth, u: Tick) -> bool
 }
 
 // The first idle place, or the last.
+// Stays: a number and no Option, by FreePost; it is asked where BusyPost has said that a place is idle.
 pub fn free(f: Firsts) -> usize
     ensures is { FreePost f result }
     ensures below { result < 4 }

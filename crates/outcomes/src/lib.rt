@@ -11,6 +11,7 @@ use plane::{Nth, marked};
 use rules::{Counts, Fate, Pulse, Tick};
 
 // What becomes of a bracket. A phantom that it removes, with its place, is removed first, and the bracket tried again.
+// Stays: beside Fate, which is what becomes of it at last; with a case that holds a Fate, Outcome::Lost would be Outcome::Is(Fate::Lost).
 #[derive(Clone, Copy)]
 pub enum Outcome {
     Sidelobe,

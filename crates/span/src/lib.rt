@@ -98,8 +98,5 @@ pub fn tick_of(t: Tick, i: Nth) -> Tick
     ensures below { result.0 < 65536 }
     ensures is { result.0 ≡ t.0 + i.n - 242 }
 {
-    if t.0 + i.n < 242 {
-        return Tick(0);
-    }
-    Tick(t.0 + i.n - 242)
+    Tick((t.0 + i.n).saturating_sub(242))
 }
