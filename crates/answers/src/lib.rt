@@ -75,11 +75,13 @@ fn answer_line(
     requires { (count_in_lem line ≤ 64) × (count_in_lem line ≤ length flags.now) × (count_in_lem line ≤ length values.now) × (at + line_most ≤ length out.old) }
     ensures { AnswerPost (said_at line flags.now values.now) p at out.old result out.new }
 {
-    match line {
-        Ok(Frame::Open(opening)) => opened(p, opening, out, at),
-        Ok(Frame::Samples(n)) => taken(p, &flags[..n], &values[..n], out, at),
-        Ok(Frame::Close) => closed(p, out, at),
-        Err(refusal) => stopped(p, refusal, out, at),
+    let Ok(frame) = line else {
+        return stopped(p, line.unwrap_err(), out, at);
+    };
+    match frame {
+        Frame::Open(opening) => opened(p, opening, out, at),
+        Frame::Samples(n) => taken(p, &flags[..n], &values[..n], out, at),
+        Frame::Close => closed(p, out, at),
     }
 }
 
