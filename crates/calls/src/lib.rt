@@ -1,12 +1,11 @@
 // What the operations return. `specs/Post.antt` has their contracts, `specs/Whole.antt` the theorem over all lists of calls.
 #![tactic(auto)]
 
-ghost use Rattle.std.specs.Prelude.{◌/◌, ◌≡◌};
+ghost use Rattle.std.specs.Prelude.{◌/◌, ◌≡◌, Ok, Err};
 ghost use Rattle.rules.specs.Samples.{nothing};
 ghost use Rattle.rules.specs.Records.{record_size};
 ghost use Rattle.processor.specs.State.{idle_processor, running_processor};
 ghost use Rattle.calls.specs.Post.{no_totals_lem, totals_from};
-ghost use Rattle.std.specs.Prelude.{Ok, Err};
 
 use processor::{Processor, Progress, begun, idle};
 use rules::{Counts, Opening, RECORD, Refusal, Totals};
@@ -44,7 +43,7 @@ pub fn no_take(p: Processor, refusal: Refusal) -> Answered
     ensures { result ≡ record { answer = Err refusal; processor = p } }
 {
     Answered {
-        answer: Answer::Err(refusal),
+        answer: Err(refusal),
         processor: p,
     }
 }
@@ -78,7 +77,7 @@ pub fn no_close(p: Processor, refusal: Refusal) -> Closed
     ensures { result ≡ record { answer = Err refusal; totals = no_totals_lem; processor = p } }
 {
     Closed {
-        answer: Answer::Err(refusal),
+        answer: Err(refusal),
         totals: Totals {
             found: 0,
             replies: 0,
@@ -97,7 +96,7 @@ pub fn closed_after(y: Progress) -> Closed
 {
     let counts = y.counts;
     Closed {
-        answer: Answer::Ok(y.at / RECORD),
+        answer: Ok(y.at / RECORD),
         totals: totals_of(counts),
         processor: idle(),
     }

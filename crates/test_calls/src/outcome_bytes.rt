@@ -2,11 +2,11 @@
 ghost use Rattle.std.specs.Prelude.{◌≤◌, length};
 
 use calls::Answer;
-use fields::bits_of;
+use fields::{bits_of, is_average};
 use front::words::Front;
 use processor::Processor;
 use replies::level_of;
-use rules::{Counts, Estimate, Opening, Place, Reply, Slot, Totals};
+use rules::{Counts, Opening, Place, Reply, Slot, Totals};
 
 // Numbers, one behind the other, 8 bytes each.
 fn put_all(out: &mut [u8], numbers: &[u64]) {
@@ -71,7 +71,7 @@ fn put_reply(out: &mut [u8], r: Reply) {
         u64::from(w.settled),
         u64::from(w.code),
         u64::from(w.unsure),
-        u64::from(matches!(f.estimate, Estimate::Average(_))),
+        u64::from(is_average(f.estimate)),
         bits_of(level_of(f.estimate)),
         u64::from(f.n),
         u64::from(f.s),
