@@ -8,6 +8,7 @@ use Rattle.rules.specs.declared.Refusal.{Refusal}
 use Rattle.lines.specs.declared.scan.Scan.TheVariants.{Rest, Stopped, Full}
 use Rattle.lines.specs.Survey.{lines_in}
 use Rattle.lines.specs.Post.{afterwards}
+use Rattle.steps.specs.Outcomes.{stops, printed}
 use Rattle.lines.specs.declared.scan.Scanned.{Scanned}
 use Rattle.carrying.specs.declared.Stop.{Stop}
 use Rattle.carrying.specs.declared.Stop.TheVariants.{Refused, Unread, CannotRead, CannotWrite, NoRoom}
@@ -73,8 +74,21 @@ module _ (p₀ : Processor) (held : List ℕ) where
 
     -- a refusal: this is all
     pub carried-over : (k : Refusal) (used : ℕ) → r.scan ≡ Stopped k → (input : List ℕ) → CarriedPost p₀ held (Err (Refused k used)) input
+    unfolding both
     carried-over k used e input =
-        record { inside = tt; new = both; left = λ σ m R. (joined (Stopped k) e σ m).same R tt ∙ append-nil (both σ m) }
+        record {
+          inside = tt;
+          new = both;
+          left = λ σ m.
+              let d = h.carries σ m in
+              let w = g.stopped d.next d.made k e in (
+                λ R. (joined (Stopped k) e σ m).same R tt ∙ append-nil (both σ m),
+                record {
+                  before = h.new σ m ++ w.before;
+                  last = ap (λ (x : List ℕ). h.new σ m ++ x) w.last ∙ sym (append_assoc (h.new σ m) w.before (printed (stops k)));
+                },
+              );
+        }
 
     -- no whole line is left
     carried-rest : r.scan ≡ Rest → (k used : ℕ) (input : List ℕ) → k ≤ length input → take k input ≡ drop r.from held

@@ -4,11 +4,15 @@ use Rattle.processor.specs.declared.Processor.{Processor}
 use Rattle.processor.specs.State.{Sweep, Made}
 use Rattle.ends.specs.Ends.{LinePast}
 use Rattle.lines.specs.declared.scan.Scan.{Scan}
-use Rattle.lines.specs.declared.scan.Scan.TheVariants.{Rest}
+use Rattle.lines.specs.declared.scan.Scan.TheVariants.{Rest, Stopped, Full as NoPlace}
 use Rattle.lines.specs.declared.scan.Scanned.{Scanned}
 use Rattle.lines.specs.Survey.{lines_in, surveyed}
+use Rattle.rules.specs.declared.Refusal.{Refusal}
+use Rattle.rules.specs.declared.Refusal.TheVariants.{Malformed}
+use Rattle.steps.specs.Outcomes.{stops, printed}
 use Rattle.lines.specs.Post.{afterwards}
 use Rattle.carrying.specs.Failing.{Failing}
+use Rattle.carrying.specs.declared.Headway.{Headway}
 use Rattle.carrying.specs.declared.Stop.{Stop}
 use Rattle.carrying.specs.declared.Stop.TheVariants.{Refused, Unread, CannotRead, CannotWrite, NoRoom}
 use Rattle.carrying.specs.declared.Survey.{Survey}
@@ -27,9 +31,24 @@ pub record Carries (σ : Sweep) (held : List ℕ) (complete : Bool) (scan : Scan
   pub made : Made next p
   pub same : (R : List ℕ) → Behind complete R → surveyed (lines_in (held ++ R)) σ ≡ new ++ afterwards scan (lines_in (rest ++ R)) next
 
+-- whether a survey goes on after a scan
+abbrev pub goes_on_after : Scan → Bool
+goes_on_after Rest = true
+goes_on_after NoPlace = true
+goes_on_after (Stopped k) = false
+
+-- how far a scan came
+abbrev pub headway_of : Scanned → Headway
+headway_of r = record { processor = r.processor; from = r.from; goes_on = goes_on_after r.scan }
+
+-- a scan after which it goes on, or has stopped; which refusal stopped it changes nothing of what is printed then (`afterwards`)
+abbrev pub scan_of : Bool → Scan
+scan_of true = Rest
+scan_of false = Stopped Malformed
+
 -- The bytes that may be printed: just those of the lines that r says were carried out, from the processor p and the place `from` on.
-pub record Prints (p : Processor) (input : List ℕ) (from : ℕ) (complete : Bool) (r : Scanned) (bytes : List ℕ) : Type 0 where
-  pub carries : (σ : Sweep) → Made σ p → Carries σ (drop from input) complete r.scan r.processor (drop r.from input) bytes
+pub record Prints (p : Processor) (input : List ℕ) (from : ℕ) (complete : Bool) (r : Headway) (bytes : List ℕ) : Type 0 where
+  pub carries : (σ : Sweep) → Made σ p → Carries σ (drop from input) complete (scan_of r.goes_on) r.processor (drop r.from input) bytes
 
 -- what a survey stops for without a refusal
 abbrev pub Fails : Stop → Type 0
@@ -45,19 +64,26 @@ pub record PrintPost (r : Result (Unit {0}) Stop) : Type 0 where
 
 -- ---- what is carried out
 
--- one scan: `new` was printed, and if the lines are at their end, the rest holds no whole one
+-- what was printed ends in the line of the refusal k
+pub record EndsIn (k : Refusal) (new : List ℕ) : Type 0 where
+  pub before : List ℕ
+  pub last : new ≡ before ++ printed (stops k)
+
+-- one scan: `new` was printed; if the lines are at their end, the rest holds no whole one; if a refusal stopped them, its line is the last
 pub record Passed (p : Processor) (input : List ℕ) (from : ℕ) (r : Scanned) : Type 0 where
   pub reach : r.from ≤ length input
   pub past : (σ : Sweep) → Made σ p → r.scan ≡ Rest → LinePast input r.from
   pub new : (σ : Sweep) → Made σ p → List ℕ
   pub carries : (σ : Sweep) (m : Made σ p) → Carries σ (drop from input) false r.scan r.processor (drop r.from input) (new σ m)
+  pub stopped : (σ : Sweep) (m : Made σ p) (k : Refusal) → r.scan ≡ Stopped k → EndsIn k (new σ m)
 
 abbrev pub PassPost : Processor → List ℕ → ℕ → Result Scanned Stop → Type 0
 PassPost p input from r = MatchResult r (Passed p input from) Fails
 
--- A survey that is refused printed all there is, whatever comes behind; of one that a failed write ended nothing is known.
+-- A survey that is refused printed all there is, whatever comes behind, and last the line of this refusal; of one that a failed write ended nothing is
+-- known.
 abbrev pub Stops : Stop → Sweep → List ℕ → List ℕ → Type 0
-Stops (Refused k used) σ held new = (R : List ℕ) → surveyed (lines_in (held ++ R)) σ ≡ new
+Stops (Refused k used) σ held new = ((R : List ℕ) → surveyed (lines_in (held ++ R)) σ ≡ new) × EndsIn k new
 Stops Unread σ held new = Failing
 Stops (CannotRead e) σ held new = Failing
 Stops (CannotWrite e) σ held new = Failing

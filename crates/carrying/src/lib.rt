@@ -4,7 +4,7 @@
 
 ghost use Rattle.std.specs.Prelude.{◌≡◌, ◌+◌, ◌%◌, ◌^◌, ◌≤◌, length, take};
 ghost use Rattle.carrying.specs.Text.{said_of};
-ghost use Rattle.carrying.specs.Post.{Prints, PrintPost, PassPost, CarriedPost, ToStartPost};
+ghost use Rattle.carrying.specs.Post.{headway_of, Prints, PrintPost, PassPost, CarriedPost, ToStartPost};
 
 use lines::{Scan, Scanned, scan_lines};
 use processor::Processor;
@@ -20,6 +20,14 @@ pub struct Survey {
     pub processor: Processor,
     pub kept: usize,
     pub used: u64,
+}
+
+// How far a survey came in its input, with which processor, and whether it goes on from there.
+#[derive(Clone, Copy)]
+pub struct Headway {
+    pub processor: Processor,
+    pub from: usize,
+    pub goes_on: bool,
 }
 
 // Why a survey stops before the end of its input: it is refused after so many bytes; nobody reads what it prints any more; a read or a write failed;
@@ -72,25 +80,34 @@ fn write_failed<W: fmt::Write>(
 
 // ---- output
 
-// Writes the bytes, however little each call takes. Its caller shows that they are just those of the lines that were carried out, from a processor
-// and a place of the input on: for this alone it is handed what it does not use.
+// Writes the bytes, however little each call takes; one that a signal interrupts takes nothing. Its caller shows that they are just those of the lines
+// that were carried out, from a processor and a place of the input on: for this alone it is handed what it does not use. Nothing says that a write takes
+// a byte, so the loop has a count that no run uses up.
 pub fn print(
     rt: &impl Print,
     p: Processor,
     input: &[u8],
     from: usize,
     complete: bool,
-    r: Scanned,
+    r: Headway,
     bytes: &[u8],
 ) -> Result<(), Stop>
     requires { Prints p input.now from complete r bytes.now }
     ensures { PrintPost result }
 {
-    match rt.write_all(bytes) {
-        Ok(()) => Ok(()),
-        Err(error) if error.kind() == ErrorKind::BrokenPipe => Err(Stop::Unread),
-        Err(error) => Err(Stop::CannotWrite(error)),
+    let mut done: usize = 0;
+    for _ in 0..u64::MAX {
+        if done == bytes.len() {
+            return Ok(());
+        }
+        match rt.write_some(&bytes[done..]) {
+            Ok(taken) => done += taken,
+            Err(error) if error.kind() == ErrorKind::Interrupted => {}
+            Err(error) if error.kind() == ErrorKind::BrokenPipe => return Err(Stop::Unread),
+            Err(error) => return Err(Stop::CannotWrite(error)),
+        }
     }
+    Err(Stop::Unread)
 }
 
 // ---- input
@@ -111,6 +128,21 @@ fn to_start(input: &mut [u8], from: usize, to: usize) -> usize
     to - from
 }
 
+// How far a scan came.
+fn come_to(r: Scanned) -> Headway
+    ensures { result ≡ headway_of r }
+{
+    let goes_on = match r.scan {
+        Scan::Rest | Scan::Full => true,
+        Scan::Stopped(_) => false,
+    };
+    Headway {
+        processor: r.processor,
+        from: r.from,
+        goes_on,
+    }
+}
+
 // Carries out lines from a place on until they end or the output is full, and prints what they give.
 fn pass(
     rt: &impl Print,
@@ -123,7 +155,7 @@ fn pass(
     ensures { PassPost p input.now from result }
 {
     let r = scan_lines(p, input, from, output, 0);
-    print(rt, p, input, from, false, r, &output[..r.at])?;
+    print(rt, p, input, from, false, come_to(r), &output[..r.at])?;
     Ok(r)
 }
 

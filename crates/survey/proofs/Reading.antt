@@ -1,5 +1,7 @@
 -- What is kept read after read, and what is printed at the end of the input.
-use Rattle.std.proofs.Common.{ℕ, ◌<◌, arith, ◌≡◌, refl, sym, ap, ap₂, ◌∙◌, subst, Bool, true, List, [], ◌++◌, Ok, append-nil, length, take}
+use Rattle.std.proofs.Common.{ℕ, ◌-◌, ◌≤◌, ◌<◌, arith, ◌≡◌, refl, sym, ap, ap₂, ◌∙◌, subst, Bool, true, false, List, [], ◌++◌, Some, None, Ok, append-nil, length, take}
+use borrow.Rule.Slice.PartMut.{put_mid, take_put}
+use Rattle.std.proofs.lemmas.Option.{none-some}
 use Rattle.rules.specs.Buffers.{over-at}
 use Rattle.processor.specs.declared.Processor.{Processor}
 use Rattle.processor.specs.State.{Sweep, none, idle_processor, processor_of, Made}
@@ -9,7 +11,6 @@ use Rattle.steps.specs.declared.Step.TheVariants.{Stops}
 use Rattle.steps.specs.Outcomes.{Outcome, stops, line_at, printed}
 use Rattle.steps.specs.Post.{has_room_lem, output_as, RestPost}
 use Rattle.rules.specs.declared.Refusal.{Refusal}
-use Rattle.lines.specs.declared.scan.Scan.TheVariants.{Stopped}
 use Rattle.lines.specs.Survey.{lines_in, surveyed}
 use Rattle.lines.proofs.Scanning.{stood, survey-rest}
 use Rattle.carrying.specs.declared.Survey.{Survey}
@@ -21,7 +22,7 @@ use Rattle.survey.specs.Post.{Going}
 
 -- what is left at the end of the input is refused, and nothing comes behind
 module _ (p : Processor) (l b : List ℕ) (s : Step) (b' : List ℕ) (h : RestPost 0 b s b') (past : LinePast l 0) (some : 0 < length l) where
-  pub rest-prints : (k : Refusal) (e n : ℕ) → s ≡ Stops k e → n ≡ length l → Prints p l 0 true (record { scan = Stopped k; processor = p; from = n; at = e }) (take e b')
+  pub rest-prints : (k : Refusal) (e n : ℕ) → s ≡ Stops k e → n ≡ length l → Prints p l 0 true (record { processor = p; from = n; goes_on = false }) (take e b')
   rest-prints k e n is z = record { carries = λ σ m. record { next = σ; made = m; same = λ R t. one σ R t } }
     where
       one : (σ : Sweep) (R : List ℕ) → R ≡ [] → surveyed (lines_in (l ++ R)) σ ≡ take e b' ++ []
@@ -36,6 +37,14 @@ module _ (p : Processor) (l b : List ℕ) (s : Step) (b' : List ℕ) (h : RestPo
           ∙ sym (append-nil (take e b') ∙ at-start (printed (stops k)) e b b' w.to out)
 
 -- ---- read after read
+
+-- a read behind the bytes kept leaves these
+pub read_stays : (kept : ℕ) (input got : List ℕ) → kept ≤ length input → take kept (put_mid kept (length input - kept) input got) ≡ take kept input
+read_stays kept input got h = take_put kept (length input - kept) input got h
+
+-- a read that gave bytes is not the end of the input
+pub more_left : (n : ℕ) → Some n ≡ None → ⊥
+more_left n e = none-some n (sym e)
 
 idle-made : Made none idle_processor
 unfolding processor_of

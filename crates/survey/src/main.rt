@@ -8,8 +8,7 @@ ghost use Rattle.std.specs.Prelude.{◌≤◌, length};
 ghost use Rattle.ends.specs.Ends.{LinePast};
 ghost use Rattle.survey.specs.Post.{Going, Stands, ReadPost};
 
-use carrying::{Stop, Survey, carried, more, print};
-use lines::{Scan, Scanned};
+use carrying::{Headway, Stop, Survey, carried, more, print};
 use processor::idle;
 use std::io::{ErrorKind, Read};
 use steps::{Step, rest_step};
@@ -39,11 +38,10 @@ fn last(rt: &impl Print, s: Survey, rest: &[u8], output: &mut [u8]) -> Result<()
     let Step::Stops(refusal, at) = rest_step(output, 0) else {
         return Ok(());
     };
-    let r = Scanned {
-        scan: Scan::Stopped(refusal),
+    let r = Headway {
         processor: s.processor,
         from: n,
-        at,
+        goes_on: false,
     };
     print(rt, s.processor, rest, 0, true, r, &output[..at])?;
     Err(Stop::Refused(refusal, more(s.used, n)))

@@ -1,3 +1,4 @@
+-- `carrying::carried` meets its contract.
 use Rattle.std.proofs.Common.{◌≡◌, ℕ, List, Err, length, take, refl, ap, subst, arith}
 use Rattle.carrying.specs.Failing.{turns-used}
 use Rattle.carrying.specs.declared.Stop.TheVariants.{Refused, NoRoom}

@@ -1,3 +1,6 @@
+use Rattle.std.proofs.Common.{false, sym, subst, take}
+use Rattle.carrying.specs.declared.Headway.{Headway}
+use Rattle.carrying.specs.Post.{Prints}
 use Rattle.carrying.proofs.Printing.{scan-prints, scan-passed, pass_fails}
 use Rattle.carrying.proofs.pass.Goals as goal
 
@@ -5,7 +8,8 @@ pub print-requires : goal.print-requires
 print-requires g c =
     let a = c.args in
     let scan-lines = c.scan_lines-r in
-    scan-prints a.p a.input.now a.from _ scan-lines.result _ scan-lines.ensures
+    let P : Headway → Type 0 = λ x. Prints a.p a.input.now a.from false x (take scan-lines.result.at scan-lines.new.out) in
+    subst P (sym c.come_to.ensures) (scan-prints a.p a.input.now a.from _ scan-lines.result _ scan-lines.ensures)
 
 pub returns : goal.returns
 returns g c =
