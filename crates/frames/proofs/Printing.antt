@@ -1,7 +1,7 @@
 -- The lines that are printed, one after the other.
 use Prim.Native.Nat.{ℕ, zero, suc, ◌+◌, ◌-◌, ◌*◌, ◌/◌, ◌≤◌, ◌<◌, min}
 use native.Mathlib.Omega.{arith}
-use mathlib.Core.Path.{◌≡◌, refl, sym, ap, ap₂, ◌∙◌}
+use mathlib.Core.Path.{◌≡◌, refl, sym, ap, ap₂, ◌∙◌, subst}
 use mathlib.Core.Bool.{Bool, true, false}
 use mathlib.Core.List.{List, [], ◌∷◌, ◌++◌, append_assoc, append-nil}
 use lib.Dec.{leb}
@@ -118,12 +118,15 @@ totals_next l b two k h n e t =
           ∙ ap (flat_map (bytes 2)) (sym (take-suc l k 0 h) ∙ ap (λ (i : ℕ). take i l) {x = suc k} {y = k + 1} (omega arith));
     }
 
-pub totals_are : (t : Totals) (b : List ℕ) (k : ℕ) → 6 ≤ k → k ≤ 6 → Totalled (t.found ∷ t.replies ∷ t.sidelobe ∷ t.garbled ∷ t.lost ∷ t.phantoms ∷ []) b k → b ≡ totals_bytes_lem t
+-- six numbers that are the totals, all put
+pub totals_are : (t : Totals) (f r s g l h : ℕ) (b : List ℕ) (k : ℕ) → Totalled (f ∷ r ∷ s ∷ g ∷ l ∷ h ∷ []) b k → 6 ≤ k → k ≤ 6
+    → f ≡ t.found → r ≡ t.replies → s ≡ t.sidelobe → g ≡ t.garbled → l ≡ t.lost → h ≡ t.phantoms → b ≡ totals_bytes_lem t
 unfolding totals_bytes_lem
-totals_are t b k h m p =
-    let e : k ≡ 6 = omega arith in
-    let z : 2 * k ≡ length b = omega (arith, p.size) in
-    sym (take-length b) ∙ ap (λ (i : ℕ). take i b) (sym z) ∙ p.so_far ∙ ap (λ (i : ℕ). flat_map (bytes 2) (take i (t.found ∷ t.replies ∷ t.sidelobe ∷ t.garbled ∷ t.lost ∷ t.phantoms ∷ []))) e
+totals_are t f r s g l h b k p least most ef er es eg el eh =
+    let e : k ≡ 6 = omega (arith, least, most) in
+    let z : 2 * k ≡ length b = omega (arith, e, p.size) in
+    sym (take-length b) ∙ ap (λ (i : ℕ). take i b) (sym z) ∙ p.so_far ∙ ap (λ (i : ℕ). flat_map (bytes 2) (take i (f ∷ r ∷ s ∷ g ∷ l ∷ h ∷ []))) e
+    ∙ (λ i. flat_map (bytes 2) (ef i ∷ er i ∷ es i ∷ eg i ∷ el i ∷ eh i ∷ []))
 
 pub totals-size : (t : Totals) → length (totals_bytes_lem t) ≡ 12
 unfolding totals_bytes_lem bytes
@@ -132,6 +135,11 @@ totals-size t = refl
 pub totals-length : (t : Totals) → length (totals_line_lem t) ≡ totals_line_size
 unfolding totals_bytes_lem bytes
 totals-length t = refl
+
+-- the line with the bytes of the totals is that of the totals
+pub totals-written : (t : Totals) (at : ℕ) (b bytes : List ℕ) → bytes ≡ totals_bytes_lem t → (r : ℕ) (b' : List ℕ) → WritePost (written (18 ∷ bytes)) at b r b'
+    → WritePost (totals_line_lem t) at b r b'
+totals-written t at b bytes is r b' h = subst (λ (l : List ℕ). WritePost (written (18 ∷ l)) at b r b') is h
 
 -- ---- where the bytes fit, and where not
 

@@ -433,6 +433,11 @@ module _ (p : Processor) (T : Trace) (to at : ℕ) (b : List ℕ) where
         all-batch input from g =
             by_room (λ t l. batch_post p input from to at b l T g r b' t s some) (λ n. absurd (some_not_none (sym some ∙ n.0)))
 
+-- a piece that is not taken leaves the output as it was, so lines that are carried out from there on are carried out from the start
+pub line_by_line : (p : Processor) (T : Trace) (to at : ℕ) (b : List ℕ) (r : Option Batched) (b' : List ℕ) → TakeAllPost p T to at b r b' → r ≡ None
+    → (input : List ℕ) (from : ℕ) (s : Batched) (b'' : List ℕ) → BatchPost p input from at b' s b'' → BatchPost p input from at b s b''
+line_by_line p T to at b r b' h z input from s b'' d = subst (λ (x : List ℕ). BatchPost p input from at x s b'') (all_nothing p T to at b r b' h z) d
+
 -- the lines up to place i are carried out, and the samples from place a on are those of the others
 pub record Going (p : Processor) (input : List ℕ) (from to at : ℕ) (flags values b₀ : List ℕ) (q : Processor) (i a place : ℕ) (b : List ℕ) : Type 0 where
   pub start : from ≤ i

@@ -1,5 +1,8 @@
--- What an edge makes of a reply that covers it: the laws behind `hear` and `heard`.
-use Rattle.std.proofs.Common.{◌≡◌, ℕ, ◌+◌, ◌-◌, ◌*◌, ◌/◌, ◌%◌, ◌^◌, ◌<◌, ◌≤◌, Bool, true, false, cond, ◌&&◌, eqb, leb, sym, refl, ap, ◌∙◌, arith, eqb-true, leb-true}
+-- What an edge makes of a reply that covers it: the laws behind `taken_in`, `hear` and `heard`.
+use Rattle.std.proofs.Common.{◌≡◌, ℕ, zero, suc, ◌+◌, ◌-◌, ◌*◌, ◌/◌, ◌%◌, ◌^◌, ◌<◌, ◌≤◌, Bool, true, false, cond, ◌&&◌, eqb, leb, [], ◌∷◌, get_or, sym, refl, ap, ◌∙◌, arith, eqb-true, leb-true}
+use lib.Ieee.{Float, nan}
+use Rattle.rules.specs.declared.Estimate.{Estimate}
+use Rattle.rules.specs.declared.Estimate.TheVariants.{Lone, Average}
 use Rattle.rules.specs.declared.Word.{Word}
 use Rattle.rules.specs.declared.Reference.{Reference}
 use Rattle.rules.specs.declared.Reply.{Reply}
@@ -8,12 +11,12 @@ use Rattle.rules.specs.declared.Slot.{Slot}
 use Rattle.rules.specs.declared.Slot.TheVariants.{Idle, Open}
 use Rattle.rules.specs.declared.Place.{Place}
 use Rattle.places.specs.Places.{test, test_slot, position_slot, hear_at}
-use Rattle.rules.specs.Replies.{Verdict, f1, position, is_position, covers, verdict, takes, settle, average, heard_at, bit_of}
+use Rattle.rules.specs.Replies.{Verdict, f1, position, is_position, covers, level, verdict, takes, settle, average, heard_at, bit_of}
 use Rattle.rules.proofs.Truth.{impossible, and_left}
 use Rattle.replies.specs.Sums.{wrapped, word_plus}
 use Rattle.replies.proofs.ReplyLaws.{settle_law}
 use Rattle.masks.specs.Masks.{covers_from}
-use Rattle.settling.specs.Hearing.{position_number, place_of, position_of_bit, goes_to, fresh_in, hear_by}
+use Rattle.settling.specs.Hearing.{position_number, place_of, position_of_bit, goes_to, fresh_in, kind_of, estimate_of_lem, hear_by}
 use Rattle.settling.specs.Deals.{goes_to_slot, heard_by, hearing}
 use Rattle.settling.proofs.FreshBits.{place-position, position-place, fresh-digit, fresh-bit}
 
@@ -76,6 +79,22 @@ sure_digit true true g h eg eh = ap (λ (z : ℕ). eqb z 1) (eh ∙ eg)
 sure_digit true false g h eg eh = ap (λ (z : ℕ). eqb z 1) eh
 sure_digit false true g h eg eh = ap (λ (z : ℕ). eqb z 1) (eh ∙ eg)
 sure_digit false false g h eg eh = ap (λ (z : ℕ). eqb z 1) eh
+
+-- ---- the reference
+
+estimate_back : (e : Estimate) → estimate_of_lem (kind_of e) (level e) ≡ e
+estimate_back (Lone x) = refl
+estimate_back (Average x) = refl
+
+-- with x and y for the two levels, k for the kind, t for the place of the level, a for the estimate that is chosen
+pub taken_law : (f : Reference) (h v : ℕ) → h < 2 → (g : Reference) → g ≡ average wrapped f v → (x y : Float) → x ≡ level f.estimate → y ≡ level g.estimate → (i j k : ℕ)
+    → i ≡ kind_of g.estimate → j ≡ kind_of f.estimate → k ≡ cond (eqb h 1) i j → (t : ℕ) → t ≡ h → (a : Estimate) → a ≡ estimate_of_lem k (get_or (x ∷ y ∷ []) t nan) → (n s : ℕ) → n ≡ cond (eqb h 1) g.n f.n
+    → s ≡ cond (eqb h 1) g.s f.s → record { estimate = a; n = n; s = s } ≡ cond (eqb h 1) (average wrapped f v) f
+taken_law f zero v l g eg x y ex ey i j k ei ej ek t et a ea n s en es =
+    λ z. record { estimate = (ea ∙ (λ u. estimate_of_lem ((ek ∙ ej) u) (get_or (ex u ∷ y ∷ []) (et u) nan)) ∙ estimate_back f.estimate) z; n = en z; s = es z }
+taken_law f (suc zero) v l g eg x y ex ey i j k ei ej ek t et a ea n s en es =
+    (λ z. record { estimate = (ea ∙ (λ u. estimate_of_lem ((ek ∙ ei) u) (get_or (x ∷ ey u ∷ []) (et u) nan)) ∙ estimate_back g.estimate) z; n = en z; s = es z }) ∙ eg
+taken_law f (suc (suc h)) v l g eg x y ex ey i j k ei ej ek t et a ea n s en es = absurd (omega (arith, l))
 
 -- ---- the reply
 

@@ -3,6 +3,7 @@ use Prim.Native.Nat.{ℕ, ◌+◌, ◌*◌, ◌<◌}
 use native.Mathlib.Omega.{arith}
 use mathlib.Core.Path.{ap, sym, subst}
 use lib.ListN.{length}
+use Rattle.std.specs.Int.{div_ceil}
 use Rattle.calls.specs.declared.Answered.{Answered}
 use Rattle.takes.proofs.Taking.{all-bytes}
 use Rattle.piecewise.proofs.Turns.{begin_first, begin_inside, begin_last}
@@ -28,7 +29,7 @@ pub slice_bounds-take-end-in-loop-k : goal.slice_bounds-take-end-in-loop-k
 slice_bounds-take-end-in-loop-k c =
     let a = c.args in
     let l = c.loop-k in
-    let more = subst (λ (n : ℕ). l.k < n) c.div_ceil-k-end.ensures c.loop-k-test.true in
+    let more : l.k < div_ceil (length a.flags.now) a.piece = omega arith in
     omega (
       arith,
       alike a.opening (record { flags = a.flags.now; values = a.values.now }) a.piece a.out.now c.requires,
@@ -51,7 +52,7 @@ pub overflow_mul-at : goal.overflow_mul-at
 overflow_mul-at c =
     let a = c.args in
     let l = c.loop-k in
-    let more = subst (λ (n : ℕ). l.k < n) c.div_ceil-k-end.ensures c.loop-k-test.true in
+    let more : l.k < div_ceil (length a.flags.now) a.piece = omega arith in
     let here = pieces_here a.opening (record { flags = a.flags.now; values = a.values.now }) a.piece a.out.now c.requires l.p l.at l.k l.out more (l.invariant.pieces a.opening (ap (λ (x : Answered). x.processor) c.open-o.ensures) c.requires) in
     omega (arith, count_small a.opening (record { flags = a.flags.now; values = a.values.now }) a.piece a.out.now c.requires l.p l.at (l.k * a.piece) l.out here (all-bytes a.values.now (λ k. omega (arith, c.type_inv.values k))) _ (ap (λ (n : ℕ). l.k * a.piece + n) c.min.ensures) c.take-t.result _ c.take-t.ensures c.unwrap_or.result c.unwrap_or.ensures)
 
@@ -59,7 +60,7 @@ pub overflow_add-at : goal.overflow_add-at
 overflow_add-at c =
     let a = c.args in
     let l = c.loop-k in
-    let more = subst (λ (n : ℕ). l.k < n) c.div_ceil-k-end.ensures c.loop-k-test.true in
+    let more : l.k < div_ceil (length a.flags.now) a.piece = omega arith in
     let here = pieces_here a.opening (record { flags = a.flags.now; values = a.values.now }) a.piece a.out.now c.requires l.p l.at l.k l.out more (l.invariant.pieces a.opening (ap (λ (x : Answered). x.processor) c.open-o.ensures) c.requires) in
     omega (arith, count_small a.opening (record { flags = a.flags.now; values = a.values.now }) a.piece a.out.now c.requires l.p l.at (l.k * a.piece) l.out here (all-bytes a.values.now (λ k. omega (arith, c.type_inv.values k))) _ (ap (λ (n : ℕ). l.k * a.piece + n) c.min.ensures) c.take-t.result _ c.take-t.ensures c.unwrap_or.result c.unwrap_or.ensures)
 
@@ -67,7 +68,7 @@ pub loop-k-preserved : goal.loop-k-preserved
 loop-k-preserved c =
     let a = c.args in
     let l = c.loop-k in
-    let more = subst (λ (n : ℕ). l.k < n) c.div_ceil-k-end.ensures c.loop-k-test.true in
+    let more : l.k < div_ceil (length a.flags.now) a.piece = omega arith in
     let step = ap (λ (n : ℕ). l.k * a.piece + n) c.min.ensures in
     record {
       pieces = λ ω e ok.
@@ -86,5 +87,5 @@ pub returns : goal.returns
 returns c =
     let a = c.args in
     let l = c.loop-k in
-    let last = begin_last (length a.flags.now) a.piece (some a.opening (record { flags = a.flags.now; values = a.values.now }) a.piece a.out.now c.requires) l.k (omega (arith, c.loop-k-test.false, c.div_ceil-k-end.ensures)) in
+    let last = begin_last (length a.flags.now) a.piece (some a.opening (record { flags = a.flags.now; values = a.values.now }) a.piece a.out.now c.requires) l.k (omega arith) in
     pieces_end a.opening (record { flags = a.flags.now; values = a.values.now }) a.piece a.out.now c.requires l.p l.at _ l.out (l.invariant.pieces a.opening (ap (λ (x : Answered). x.processor) c.open-o.ensures) c.requires) last

@@ -14,4 +14,4 @@ loop-k-preserved c =
 pub returns : goal.returns
 returns c =
     let l = c.loop-k in
-    totals_are c.args.t l.bytes l.k (omega arith) (omega arith) l.invariant
+    totals_are c.args.t _ _ _ _ _ _ l.bytes l.k l.invariant (omega arith) (omega arith) (omega arith) (omega arith) (omega arith) (omega arith) (omega arith) (omega arith)
