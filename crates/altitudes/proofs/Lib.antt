@@ -1,2 +1,4 @@
--- Laws of the steps of a code.
+-- Laws of feet, of the altitude of a code, and of modes.
+pub mod Feet
 pub mod AltitudeLaws
+pub mod MeaningLaws

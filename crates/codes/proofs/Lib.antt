@@ -1,5 +1,6 @@
--- Laws of pulses and of Gray code, and tests of all lists of digits.
+-- Laws of pulses, of Gray code and of identities, and tests of all lists of digits.
 pub mod DigitTests
 pub mod GrayLaws
 pub mod PulseLaws
+pub mod IdentityLaws
 pub mod Dependence
