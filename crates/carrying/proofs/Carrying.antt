@@ -6,7 +6,7 @@ use Rattle.ends.specs.Ends.{LinePast}
 use Rattle.lines.specs.declared.scan.Scan.{Scan}
 use Rattle.rules.specs.declared.Refusal.{Refusal}
 use Rattle.lines.specs.declared.scan.Scan.TheVariants.{Rest, Stopped, Full}
-use Rattle.lines.specs.Survey.{lines_in}
+use Rattle.lines.specs.Survey.{lines_in, surveyed}
 use Rattle.lines.specs.Post.{afterwards}
 use Rattle.steps.specs.Outcomes.{stops, printed}
 use Rattle.lines.specs.declared.scan.Scanned.{Scanned}
@@ -41,48 +41,56 @@ module _ (p₀ : Processor) (held : List ℕ) where
   carried_failed (Err x) input e f h =
       record { inside = tt; new = λ σ m. []; left = λ σ m. stops_failing x σ [] (subst Fails (sym h) f) }
 
-  module _ (p : Processor) (from : ℕ) (h : Carrying p₀ held p from) (r : Scanned) (g : Passed p held from r) where
+  -- one scan more, which printed `new`; no more is asked of it
+  module _ {p : Processor} {from : ℕ} (h : Carrying p₀ held p from) (r : Scanned) {new : (σ : Sweep) → Made σ p → List ℕ} (carries : (σ : Sweep) (m : Made σ p) → Carries σ (drop from held) false r.scan r.processor (drop r.from held) (new σ m)) where
     both : (σ : Sweep) → Made σ p₀ → List ℕ
     both σ m =
         let d = h.carries σ m in
-        h.new σ m ++ g.new d.next d.made
+        h.new σ m ++ new d.next d.made
 
     joined : (scan : Scan) → r.scan ≡ scan → (σ : Sweep) (m : Made σ p₀) → Carries σ held false scan r.processor (drop r.from held) (both σ m)
     unfolding both
     joined scan e σ m =
         let d = h.carries σ m in
-        let w = g.carries d.next d.made in
+        let w = carries d.next d.made in
         subst (λ (x : Scan). Carries σ held false x r.processor (drop r.from held) (both σ m)) e
         (record {
           next = w.next;
           made = w.made;
           same = λ R t.
               d.same R t ∙ ap (λ (x : List ℕ). h.new σ m ++ x) (w.same R t)
-              ∙ sym (append_assoc (h.new σ m) (g.new d.next d.made) (afterwards r.scan (lines_in (drop r.from held ++ R)) w.next));
+              ∙ sym (append_assoc (h.new σ m) (new d.next d.made) (afterwards r.scan (lines_in (drop r.from held ++ R)) w.next));
         })
 
+    -- a refusal: this is all, whatever comes behind
+    pub all-printed : (k : Refusal) → r.scan ≡ Stopped k → (σ : Sweep) (m : Made σ p₀) (R : List ℕ)
+        → surveyed (lines_in (held ++ R)) σ ≡ h.new σ m ++ new (h.carries σ m).next (h.carries σ m).made
+    unfolding both
+    all-printed k e σ m R = (joined (Stopped k) e σ m).same R tt ∙ append-nil (both σ m)
+
+  module _ (p : Processor) (from : ℕ) (h : Carrying p₀ held p from) (r : Scanned) (g : Passed p held from r) where
     -- the output was full: the next scan goes on
     pub carrying_next : r.scan ≡ Full → Carrying p₀ held r.processor r.from
     carrying_next e =
         record {
           reach = g.reach;
-          new = both;
+          new = both h r g.carries;
           carries = λ σ m.
-              let d = joined Full e σ m in
+              let d = joined h r g.carries Full e σ m in
               record { next = d.next; made = d.made; same = d.same };
         }
 
-    -- a refusal: this is all
+    -- a refusal: this is all, and its line is the last
     pub carried-over : (k : Refusal) (used : ℕ) → r.scan ≡ Stopped k → (input : List ℕ) → CarriedPost p₀ held (Err (Refused k used)) input
     unfolding both
     carried-over k used e input =
         record {
           inside = tt;
-          new = both;
+          new = both h r g.carries;
           left = λ σ m.
               let d = h.carries σ m in
               let w = g.stopped d.next d.made k e in (
-                λ R. (joined (Stopped k) e σ m).same R tt ∙ append-nil (both σ m),
+                all-printed h r g.carries k e σ m,
                 record {
                   before = h.new σ m ++ w.before;
                   last = ap (λ (x : List ℕ). h.new σ m ++ x) w.last ∙ sym (append_assoc (h.new σ m) w.before (printed (stops k)));
@@ -94,12 +102,13 @@ module _ (p₀ : Processor) (held : List ℕ) where
     carried-rest : r.scan ≡ Rest → (k used : ℕ) (input : List ℕ) → k ≤ length input → take k input ≡ drop r.from held
         → CarriedPost p₀ held (Ok (record { processor = r.processor; kept = k; used = used })) input
     carried-rest e k used input l is =
+        let new = both h r g.carries in
         record {
           inside = l;
-          new = both;
+          new = new;
           left = λ σ m.
               let d = h.carries σ m in
-              (subst (λ (x : List ℕ). LinePast x 0) (sym is) (past-part held r.from g.reach (g.past d.next d.made e)), subst (λ (x : List ℕ). Carries σ held false Rest r.processor x (both σ m)) (sym is) (joined Rest e σ m));
+              (subst (λ (x : List ℕ). LinePast x 0) (sym is) (past-part held r.from g.reach (g.past d.next d.made e)), subst (λ (x : List ℕ). Carries σ held false Rest r.processor x (new σ m)) (sym is) (joined h r g.carries Rest e σ m));
         }
 
 -- what is left of the first n bytes has moved to the start

@@ -18,7 +18,7 @@ at-start new n b b' e is =
     ap (λ (x : ℕ). take x b') {x = n} {y = n - 0} (omega arith) ∙ read_back new 0 n b b' (omega arith) e is
 
 -- what comes afterwards is said by whether the survey goes on
-goes-or-stops : (s : Scan) (ls : List (List ℕ)) (σ : Sweep) → afterwards s ls σ ≡ afterwards (scan_of (goes_on_after s)) ls σ
+pub goes-or-stops : (s : Scan) (ls : List (List ℕ)) (σ : Sweep) → afterwards s ls σ ≡ afterwards (scan_of (goes_on_after s)) ls σ
 goes-or-stops Rest ls σ = refl
 goes-or-stops NoPlace ls σ = refl
 goes-or-stops (Stopped k) ls σ = refl
